@@ -1,0 +1,6 @@
+use mathlib.Core.Path.{_∙_}
+use Rattle.element.proofs.Tests.{is-finite}
+use Rattle.element.proofs.binary64.F64Real.is_finite.Needs as need
+
+pub returns : need.returns
+returns c = c .is-finite .ensures .value ∙ is-finite (c .args .self)

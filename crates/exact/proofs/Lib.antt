@@ -1,0 +1,11 @@
+pub mod Integer
+pub mod Sum
+pub mod Near
+pub mod Fraction
+pub mod Digits
+pub mod Value
+pub mod Signed
+pub mod Round
+pub mod Laws
+pub mod Magnitude
+pub mod Controls
