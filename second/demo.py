@@ -39,19 +39,57 @@ def pattern(fmt, negative, m, e):
     return sign | ((e + emax + p - 1) << (p - 1)) | (m - 2 ** (p - 1))
 
 
-def answer(fmt, a, b):
-    """a and b are (negative, magnitude), the magnitude None for an infinity."""
+def value(m, e):
+    return m * Fraction(2) ** e
+
+
+def printed(fmt, negative, q):
+    """A number q >= 0 of the format, with its sign, by its bits."""
+    if q == 0:
+        return hex(pattern(fmt, negative, 0, 0))
+    return hex(pattern(fmt, negative, *rounded(fmt, q)))
+
+
+def equation(fmt, a, b):
+    """a x = b; a and b are (negative, magnitude), the magnitude None for an infinity."""
     if a[1] is None or b[1] is None:
         return "no answer 3"
     if a[1] == 0:
         return "no answer 5"
     negative = a[0] != b[0]
     if b[1] == 0:
-        return f"answer {hex(pattern(fmt, negative, 0, 0))}"
+        return f"answer {printed(fmt, negative, Fraction(0))}"
     r = rounded(fmt, b[1] / a[1])
-    if r is None or r[0] * Fraction(2) ** r[1] < FORMATS[fmt][3]:
+    if r is None or value(*r) < FORMATS[fmt][3]:
         return "no answer 6"
-    return f"answer {hex(pattern(fmt, negative, *r))}"
+    return f"answer {printed(fmt, negative, value(*r))}"
+
+
+def product(fmt, a, x):
+    """A matrix, row by row, times a vector: each product rounded, then added with a rounding, from +0. All numbers finite."""
+    n = len(x)
+    entries = []
+    for i in range(n):
+        s = (False, Fraction(0))
+        for j in range(n):
+            u, v = a[i * n + j], x[j]
+            q = u[1] * v[1]
+            if q != 0:
+                r = rounded(fmt, q)
+                if r is None or value(*r) < FORMATS[fmt][3]:
+                    return "no answer 6"
+                q = value(*r)
+            term = (u[0] != v[0], q)
+            total = (-s[1] if s[0] else s[1]) + (-term[1] if term[0] else term[1])
+            if total == 0:
+                s = (s[0] and term[0], Fraction(0))
+                continue
+            r = rounded(fmt, abs(total))
+            if r is None:
+                return "no answer 6"
+            s = (total < 0, value(*r))
+        entries.append(printed(fmt, *s))
+    return "answer " + " ".join(entries)
 
 
 def power(k):
@@ -65,7 +103,11 @@ def number(n):
 NEGATIVE_ZERO = (True, Fraction(0))
 INFINITY = (False, None)
 
-CASES = {
+def numbers(*ns):
+    return [number(n) for n in ns]
+
+
+EQUATIONS = {
     "binary64": [
         ("3 x = 1", number(3), number(1)),
         ("0 x = 1", number(0), number(1)),
@@ -84,7 +126,21 @@ CASES = {
     ],
 }
 
-for fmt, cases in CASES.items():
+PRODUCTS = {
+    "binary64": [
+        ("1 2 / 3 4 times 1 1", numbers(1, 2, 3, 4), numbers(1, 1)),
+        ("-1 times 0", numbers(-1), numbers(0)),
+        ("2^600 times 2^600", [power(600)], [power(600)]),
+    ],
+    "binary32": [
+        ("1 2 / 3 4 times 1 1", numbers(1, 2, 3, 4), numbers(1, 1)),
+        ("2^-64 times 2^-64", [power(-64)], [power(-64)]),
+    ],
+}
+
+for fmt in FORMATS:
     print(fmt)
-    for text, a, b in cases:
-        print(f"{text}: {answer(fmt, a, b)}")
+    for text, a, b in EQUATIONS[fmt]:
+        print(f"{text}: {equation(fmt, a, b)}")
+    for text, a, x in PRODUCTS[fmt]:
+        print(f"{text}: {product(fmt, a, x)}")

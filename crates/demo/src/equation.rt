@@ -6,6 +6,7 @@ ghost use lib.Ieee.Scale.{finite};
 ghost use Rattle.demo.specs.Equation.{Solves, Near, numberOf};
 use element::F32Real;
 use element::F64Real;
+use element::Numbered;
 use element::Real;
 
 // Why an equation has no answer.
@@ -16,10 +17,10 @@ pub enum Refusal {
     OutOfRange,
 }
 
-impl Refusal {
-    pub fn number(self) -> u32
-        ensures { λ r. ⌜ r ≡ numberOf self ⌝ }
-    {
+pub impl Numbered for Refusal as RefusalNumber {
+    ghost numbered = { numberOf };
+
+    fn number(self) -> u32 {
         match self {
             Refusal::NotFinite => 3,
             Refusal::ZeroPivot => 5,

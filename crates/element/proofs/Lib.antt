@@ -1,1 +1,10 @@
-pub mod Tests
+pub mod Comparisons
+pub mod Runs
+pub mod Rows
+pub mod Outcome
+pub mod Step
+pub mod Accumulation
+pub mod Subtraction
+pub mod Summation
+pub mod Entries
+pub mod Nearness

@@ -23,6 +23,10 @@ pub impl Real for f32 as F32Real {
         *self / *other
     }
 
+    fn zero() -> Self {
+        0.0
+    }
+
     fn is_finite(self) -> bool {
         f32::is_finite(self)
     }
@@ -34,5 +38,9 @@ pub impl Real for f32 as F32Real {
     // The constant is 2^-110.
     fn in_range(self) -> bool {
         f32::is_finite(self) & (7.703719777548943e-34 <= self.abs())
+    }
+
+    fn exceeds(self, other: Self) -> bool {
+        other.abs() < self.abs()
     }
 }

@@ -23,6 +23,10 @@ pub impl Real for f64 as F64Real {
         *self / *other
     }
 
+    fn zero() -> Self {
+        0.0
+    }
+
     fn is_finite(self) -> bool {
         f64::is_finite(self)
     }
@@ -34,5 +38,9 @@ pub impl Real for f64 as F64Real {
     // The constant is 2^-1000.
     fn in_range(self) -> bool {
         f64::is_finite(self) & (9.332636185032189e-302 <= self.abs())
+    }
+
+    fn exceeds(self, other: Self) -> bool {
+        other.abs() < self.abs()
     }
 }

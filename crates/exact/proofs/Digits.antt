@@ -3,9 +3,9 @@
 use mathlib.Core.Path.{_≡_, sym, ap, _∙_}
 use mathlib.Core.Logic.{inl, inr}
 use Prim.Native.Nat.{ℕ, zero, suc, _+_, _-_, _*_, _/_, _%_, _^_, _≤_, _<_, compare}
-use native.Mathlib.Nat.{le-trans, le-of-eq, mul-one, mul-pos, mul-le-mul-right, le-div-iff-mul-le, div-lt-iff-lt-mul, not-suc-le-zero, sub-add-cancel, pow-succ'}
+use native.Mathlib.Nat.{le-trans, le-of-eq, mul-one, mul-pos, mul-le-mul-right, le-div-iff-mul-le, mul-assoc, mul-div-cancel, div-lt-iff-lt-mul, not-suc-le-zero, sub-add-cancel, pow-succ'}
 use native.Mathlib.Omega.{arith}
-use lib.Pow.{pow-add, pow-pos}
+use lib.Pow.{pow-add, pow-pos, shl-lt}
 use lib.Ieee.{size as digits}
 use lib.Ieee.Digits.{size-le, size-reaches}
 use lib.Ieee.Nearest.{closest, closest-mono, nearest-ge}
@@ -80,3 +80,17 @@ rounded-le p l n c P C h =
     rw (closest-whole (2 ^ (l - k)) (2 ^ k) (pow-pos k)) at
     (closest-mono n (c * 2 ^ k) (2 ^ (l - k) * 2 ^ k) (2 ^ k) (mul-pos C (pow-pos k)) (pow-pos k) below) in
     rw split (mul-le-mul-right (2 ^ k) kept-le)
+
+-- m * 2 ^ j, with an m of at most p digits
+pub rounded-exact : (p m j c : ℕ) → 0 < c → m < 2 ^ p → rounded p (m * 2 ^ j * c) c ≡ m * 2 ^ j
+rounded-exact p m j c C small =
+    let w = m * 2 ^ j in
+    let k = drop p (w * c) c in
+    let size : digits (w * c / c) ≤ p + j = rw (mul-div-cancel w C) (size-le w (p + j) (shl-lt p j small)) in
+    let fewer : k ≤ j = omega arith in
+    let split : 2 ^ j ≡ 2 ^ (j - k) * 2 ^ k = ap (λ i. 2 ^ i) (sym (sub-add-cancel fewer)) ∙ pow-add 2 (j - k) k in
+    let whole : w * c ≡ m * 2 ^ (j - k) * (c * 2 ^ k) = ap (λ x. m * x * c) split ∙ omega arith in
+    ap (λ x. closest x (c * 2 ^ k) * 2 ^ k) whole
+    ∙ ap (λ x. x * 2 ^ k) (closest-whole (m * 2 ^ (j - k)) (c * 2 ^ k) (mul-pos C (pow-pos k)))
+    ∙ mul-assoc m (2 ^ (j - k)) (2 ^ k)
+    ∙ ap (λ x. m * x) (sym split)

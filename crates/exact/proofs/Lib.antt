@@ -9,3 +9,4 @@ pub mod Round
 pub mod Laws
 pub mod Magnitude
 pub mod Controls
+pub mod Zero

@@ -71,6 +71,10 @@ magnitude-pos nan t h = absurd t
 magnitude-pos (inf s) t h = absurd t
 magnitude-pos (fin s m e) t h = rw (natAbs-signed s (scaled 1074 m e)) (scaled-pos 1074 m e (lt-of-le-ne zero-le (λ z. eqb-false m 0 h (sym z))))
 
+pub not-zero : (x : Float) → 0 < magnitude x → isZero x ≡ false
+not-zero x h =
+    ⊎-elim (λ e. absurd (let none : magnitude x ≡ 0 = ap natAbs (value-zero x e) in omega arith)) (λ e. e) (cases-bool (isZero x))
+
 pub quotient-finite : (f : Format) (x y : Float) → T (fits f x) → T (fits f y) → T (finite x) → T (finite y) → isZero y ≡ false → T (quotientInRange f x y)
     → T (finite (div f x y))
 quotient-finite f x y p q s t h r =

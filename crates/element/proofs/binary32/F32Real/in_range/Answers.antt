@@ -2,7 +2,7 @@ use mathlib.Core.Path.{ap, ap₂, sym, subst, _∙_}
 use mathlib.Core.Bool.{_&&_}
 use lib.Dec.{T}
 use lib.Ieee.{binary32, le, ofBits}
-use Rattle.element.proofs.Tests.{in-range, least32}
+use Rattle.element.proofs.Comparisons.{in-range, least32}
 use Rattle.element.proofs.binary32.F32Real.in_range.Needs as need
 
 pub returns : need.returns

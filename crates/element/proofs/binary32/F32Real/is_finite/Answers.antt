@@ -1,5 +1,5 @@
 use mathlib.Core.Path.{_∙_}
-use Rattle.element.proofs.Tests.{is-finite}
+use Rattle.element.proofs.Comparisons.{is-finite}
 use Rattle.element.proofs.binary32.F32Real.is_finite.Needs as need
 
 pub returns : need.returns

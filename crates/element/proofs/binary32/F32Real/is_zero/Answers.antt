@@ -1,5 +1,5 @@
 use lib.Ieee.{binary32}
-use Rattle.element.proofs.Tests.{is-zero}
+use Rattle.element.proofs.Comparisons.{is-zero}
 use Rattle.element.proofs.binary32.F32Real.is_zero.Needs as need
 
 pub returns : need.returns

@@ -2,7 +2,7 @@ use mathlib.Core.Path.{ap, ap₂, sym, subst, _∙_}
 use mathlib.Core.Bool.{_&&_}
 use lib.Dec.{T}
 use lib.Ieee.{binary64, le, ofBits}
-use Rattle.element.proofs.Tests.{in-range, least64}
+use Rattle.element.proofs.Comparisons.{in-range, least64}
 use Rattle.element.proofs.binary64.F64Real.in_range.Needs as need
 
 pub returns : need.returns

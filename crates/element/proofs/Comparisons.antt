@@ -22,7 +22,7 @@ is-finite (inf s) = refl
 is-finite (fin s m e) = refl
 
 -- ---- zero
-zero-bits : (f : Format) → ofBits f 0 ≡ fin false 0 (pos 0)
+pub zero-bits : (f : Format) → ofBits f 0 ≡ fin false 0 (pos 0)
 unfolding ofBits
 zero-bits binary32 = refl
 zero-bits binary64 = refl
