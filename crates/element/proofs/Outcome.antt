@@ -42,7 +42,7 @@ module _ {X : Type 0} (v : X → Float) (f : Format) (n : ℕ) (a x y : List X) 
       record { outcome = sym is; output = l ∙ sym leaves }
 
 -- ---- what an answer tells
-err-not-ok : {X E : Type 0} {e : E} {x : X} → Err e ≡ Ok x → ⊥
+pub err-not-ok : {X E : Type 0} {e : E} {x : X} → Err e ≡ Ok x → ⊥
 err-not-ok p = false≢true (ap isOk p)
 
 pub inputs-ok : (s l e : Bool) → inputs s l e ≡ Ok tt → T s × T l × T e
@@ -51,9 +51,9 @@ inputs-ok true true false p = absurd (err-not-ok p)
 inputs-ok true false e p = absurd (err-not-ok p)
 inputs-ok false l e p = absurd (err-not-ok p)
 
-range-ok : (b : Bool) → _≡_ {A = Result (Unit {0}) MultiplyRefusal} (cond b (Ok tt) (Err Range)) (Ok tt) → T b
-range-ok true p = tt
-range-ok false p = absurd (err-not-ok p)
+pub range-ok : {E : Type 0} (e : E) (b : Bool) → _≡_ {A = Result (Unit {0}) E} (cond b (Ok tt) (Err e)) (Ok tt) → T b
+range-ok e true p = tt
+range-ok e false p = absurd (err-not-ok p)
 
 pub record Answered (f : Format) (n : ℕ) (a x : Row) (m : ℕ) : Type 0 where
   pub size : n ≤ 128
@@ -79,5 +79,5 @@ pub answered : (f : Format) (n : ℕ) (a x : Row) (m : ℕ) → multiplyOutcome 
 answered f n a x m = go (multiplyInputs n a x m) refl
   where
     go : (r : Result (Unit {0}) InputRefusal) → multiplyInputs n a x m ≡ r → multiplied f n a x r ≡ Ok tt → Answered f n a x m
-    go (Ok u) e p = answered-inputs f n a x m e (range-ok (rowsInRange f (matrix n a) x) p)
+    go (Ok u) e p = answered-inputs f n a x m e (range-ok Range (rowsInRange f (matrix n a) x) p)
     go (Err i) e p = absurd (err-not-ok p)

@@ -1,0 +1,5 @@
+pub mod Flat
+pub mod Sound
+pub mod Forward
+pub mod Backward
+pub mod Outcome
