@@ -1,122 +1,59 @@
-// A small example of using the library, in binary64 and in binary32: equations a x = b, and products of a matrix and a
-// vector. It prints each answer by its bit patterns, or the number of its refusal.
-mod equation;
+// A small example of using the library, in binary64 and in binary32: factors and orders of matrices, answers of systems, and
+// products. Numbers are printed as exact texts; a refusal by its number, with the column at which a factoring ended.
+mod show;
+mod texts;
 
-use element::F32Multiply;
-use element::F64Multiply;
-use element::Multiply;
-use element::MultiplyNumber;
-use element::Numbered;
 use element::Real;
-use equation::Equation;
-use equation::F32Equation;
-use equation::F64Equation;
-use equation::RefusalNumber;
+use number_text::Digits;
+use number_text::F32Digits;
+use number_text::F64Digits;
+use show::show_factors;
+use show::show_product;
+use show::show_system;
+use solver::F32Solver;
+use solver::F64Solver;
+use solver::Solver;
 use std::io;
 
-fn show_number<R: Equation>(rt: &LibcRuntime, x: R) -> io::Result<()> {
-    if x.is_finite() {
-        let bits = x.pattern();
-        print!(rt, " 0x{bits:x}")
-    } else {
-        print!(rt, " not finite")
-    }
+// A square panel of bars with both diagonals; the loads pull at one corner and press on the other.
+const TRUSS: &str =
+    "22.68 -7.68 5.76 0 0 / -7.68 22.68 -5.76 -15 0 / 5.76 -5.76 24.32 0 0 / 0 -15 0 22.68 5.76 / 0 0 0 5.76 24.32";
+
+const LOADS: &str = "0 10 0 0 -6";
+
+// What is the same in both formats.
+fn show_cases<R: Digits + Solver>(rt: &LibcRuntime) -> io::Result<()> {
+    show_factors::<R>(rt, 2, "2 1 / 4 3")?;
+    show_factors::<R>(rt, 2, "1 1 / 1 1")?;
+    show_factors::<R>(rt, 2, "0 0 / 0 0")?;
+    show_factors::<R>(rt, 2, "0 1 / -1 0")?;
+    show_factors::<R>(rt, 2, "1 1 / -1 1")?;
+    show_system::<R>(rt, "3", "1")?;
+    show_system::<R>(rt, "0", "1")?;
+    show_system::<R>(rt, "-0", "1")?;
+    show_system::<R>(rt, "2 1 / 4 3", "3 7")?;
+    show_system::<R>(rt, "0 1 / -1 0", "2 3")?;
+    show_system::<R>(rt, TRUSS, LOADS)?;
+    show_product::<R>(rt, "1 2 / 3 4", "1 1")?;
+    show_product::<R>(rt, "-1", "0")
 }
 
-fn show_refusal(rt: &LibcRuntime, text: &str, number: u32) -> io::Result<()> {
-    println!(rt, "{text}: no answer {number}")
-}
-
-fn show_equation<R: Equation>(rt: &LibcRuntime, text: &str, a: R, b: R) -> io::Result<()> {
-    match R::solve(a, b) {
-        Ok(x) => {
-            print!(rt, "{text}: answer")?;
-            show_number(rt, x)?;
-            println!(rt, "")
-        }
-        Err(refusal) => show_refusal(rt, text, refusal.number()),
-    }
-}
-
-fn show_product<R: Equation + Multiply>(
-    rt: &LibcRuntime,
-    text: &str,
-    a: &[R],
-    x: &[R],
-    y: &mut [R],
-) -> io::Result<()> {
-    match R::multiply(x.len(), a, x, y) {
-        Ok(()) => {
-            print!(rt, "{text}: answer")?;
-            for entry in y.iter() {
-                show_number(rt, *entry)?;
-            }
-            println!(rt, "")
-        }
-        Err(refusal) => show_refusal(rt, text, refusal.number()),
-    }
-}
-
-fn binary64(rt: &LibcRuntime) -> io::Result<()> {
-    println!(rt, "binary64")?;
-    show_equation(rt, "3 x = 1", 3.0f64, 1.0)?;
-    show_equation(rt, "0 x = 1", 0.0f64, 1.0)?;
-    show_equation(rt, "-0 x = 1", -0.0f64, 1.0)?;
-    show_equation(
-        rt,
-        "2^-600 x = 2^600",
-        2.409919865102884e-181f64,
-        4.149515568880993e180,
-    )?;
-    show_equation(
-        rt,
-        "2^600 x = 2^-600",
-        4.149515568880993e180f64,
-        2.409919865102884e-181,
-    )?;
-    show_equation(rt, "2^600 x = 0", 4.149515568880993e180f64, 0.0)?;
-    show_equation(rt, "1 x = infinity", 1.0f64, f64::INFINITY)?;
-    show_product(
-        rt,
-        "1 2 / 3 4 times 1 1",
-        &[1.0f64, 2.0, 3.0, 4.0],
-        &[1.0, 1.0],
-        &mut [0.0; 2],
-    )?;
-    show_product(rt, "-1 times 0", &[-1.0f64], &[0.0], &mut [1.0; 1])?;
-    show_product(
-        rt,
-        "2^600 times 2^600",
-        &[4.149515568880993e180f64],
-        &[4.149515568880993e180],
-        &mut [0.0; 1],
-    )
-}
-
-fn binary32(rt: &LibcRuntime) -> io::Result<()> {
-    println!(rt, "binary32")?;
-    show_equation(rt, "3 x = 1", 3.0f32, 1.0)?;
-    show_equation(rt, "0 x = 1", 0.0f32, 1.0)?;
-    show_equation(rt, "2^-64 x = 2^64", 5.421011e-20f32, 1.8446744e19)?;
-    show_equation(rt, "2^64 x = 2^-64", 1.8446744e19f32, 5.421011e-20)?;
-    show_equation(rt, "2^64 x = -0", 1.8446744e19f32, -0.0)?;
-    show_product(
-        rt,
-        "1 2 / 3 4 times 1 1",
-        &[1.0f32, 2.0, 3.0, 4.0],
-        &[1.0, 1.0],
-        &mut [0.0; 2],
-    )?;
-    show_product(
-        rt,
-        "2^-64 times 2^-64",
-        &[5.421011e-20f32],
-        &[5.421011e-20],
-        &mut [0.0; 1],
-    )
+// What is out of range in one format, for a number near the middle of the range above 1 and its reciprocal.
+fn show_limits<R: Digits + Solver>(rt: &LibcRuntime, large: &str, small: &str) -> io::Result<()> {
+    show_system::<R>(rt, small, large)?;
+    show_system::<R>(rt, large, small)?;
+    show_system::<R>(rt, large, "-0")?;
+    show_product::<R>(rt, large, large)?;
+    show_product::<R>(rt, small, small)
 }
 
 fn main(rt: LibcRuntime) -> io::Result<()> {
-    binary64(&rt)?;
-    binary32(&rt)
+    println!(&rt, "binary64")?;
+    show_cases::<f64>(&rt)?;
+    show_factors::<f64>(&rt, 2, "0x1p600 1 / 0x1p-600 1")?;
+    show_limits::<f64>(&rt, "0x1p600", "0x1p-600")?;
+    println!(&rt, "binary32")?;
+    show_cases::<f32>(&rt)?;
+    show_factors::<f32>(&rt, 2, "0x1p64 1 / 0x1p-64 1")?;
+    show_limits::<f32>(&rt, "0x1p64", "0x1p-64")
 }

@@ -1,0 +1,4 @@
+pub mod Number
+pub mod Digits
+pub mod Printed
+pub mod Promises
