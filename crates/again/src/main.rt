@@ -1,4 +1,6 @@
 // Reads the text of factors and then right sides, and prints the answer of each, or why it has none.
+#![tactic(auto)]
+
 use input::read_input;
 use std::io::Write;
 use text_calls::again_text;

@@ -1,4 +1,6 @@
 // The four calls in both formats, for C: each returns 0 or the number of its refusal, and gives the column of a refusal.
+#![tactic(auto)]
+
 mod binary32;
 mod binary64;
 mod column;

@@ -1,4 +1,6 @@
 // Examples of every call and program, in both formats: the edges of the rules, and what each refusal leaves.
+#![tactic(auto)]
+
 #[cfg(test)]
 mod calls;
 #[cfg(test)]

@@ -1,5 +1,7 @@
 // A small example of using the library, in binary64 and in binary32: factors and orders of matrices, answers of systems, and
 // products. Numbers are printed as exact texts; a refusal by its number, with the column at which a factoring ended.
+#![tactic(auto)]
+
 mod show;
 mod texts;
 

@@ -1,4 +1,6 @@
 // The number types, and what is computed with rows of them: one code for both formats.
+#![tactic(auto)]
+
 mod binary32;
 mod binary64;
 mod call;

@@ -1,5 +1,7 @@
 // What a float is worth, exactly, and the law of one rounding. The functions are theorems: each returns nothing and
 // promises, by its contract, a statement of specs/ that every operation of the library rests on.
+#![tactic(auto)]
+
 ghost use Rattle.exact.specs.Rounding.{ProductLaw, SumLaw, DifferenceLaw, QuotientLaw, QuotientAtMostOne};
 ghost use Rattle.exact.specs.Controls.{InexactSum, InexactProduct, InexactQuotient, SumReachesBound, ProductBelowRange};
 

@@ -1,4 +1,6 @@
 // LU factoring with row exchanges of a square matrix that lies row by row in one slice: one code for both formats.
+#![tactic(auto)]
+
 mod columns;
 mod eliminate;
 mod entries;

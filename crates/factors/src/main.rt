@@ -1,4 +1,6 @@
 // Reads the text of a system and prints the text of its factors, or why it has none.
+#![tactic(auto)]
+
 use input::read_input;
 use std::io::Write;
 use text_calls::factors_text;

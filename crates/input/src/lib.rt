@@ -1,4 +1,6 @@
 // What a program reads: the file that its only argument names, or standard input if it has none.
+#![tactic(auto)]
+
 use anyhow::anyhow;
 use std::alloc::Global;
 use std::fs::File;

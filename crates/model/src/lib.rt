@@ -1,4 +1,6 @@
 // What the calls compute, as definitions; what is promised of it; and the theorems.
+#![tactic(auto)]
+
 ghost use Rattle.std.specs.Prelude.{◌≡◌};
 ghost use Rattle.model.specs.declared.FactorRefusal.TheVariants as factoring;
 ghost use Rattle.model.specs.declared.SolveRefusal.TheVariants as solving;

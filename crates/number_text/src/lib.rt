@@ -1,4 +1,6 @@
 // Texts of numbers: one word read as a value of an element type, and a value printed exactly.
+#![tactic(auto)]
+
 mod binary32;
 mod binary64;
 mod decimal;

@@ -1,4 +1,6 @@
 // Reads the text of a system and prints its answer, or why it has none.
+#![tactic(auto)]
+
 use input::read_input;
 use std::io::Write;
 use text_calls::solve_text;

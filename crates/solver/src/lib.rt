@@ -1,4 +1,6 @@
 // The four calls of the library, for `f64` and `f32`.
+#![tactic(auto)]
+
 mod call;
 mod outcomes;
 mod solve;

@@ -1,4 +1,6 @@
 // Texts of systems and of factors: read into numbers, and written.
+#![tactic(auto)]
+
 mod factors;
 mod head;
 mod numbers;

@@ -1,4 +1,6 @@
 // The programs' work, from the text that is read to the text that is printed.
+#![tactic(auto)]
+
 mod again;
 mod factors;
 mod printed;

@@ -1,4 +1,6 @@
 // What texts of systems and of factors say, and what the programs print, as definitions; and the theorems about them.
+#![tactic(auto)]
+
 ghost use Rattle.std.specs.Prelude.{◌≡◌};
 ghost use Rattle.text_model.specs.declared.TextRefusal.TheVariants as text;
 ghost use Rattle.text_model.specs.Refusals.{solve_refusal, again_refusal};

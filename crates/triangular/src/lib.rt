@@ -1,4 +1,6 @@
 // The two triangular solves with factors that stand in one matrix, and the call `again`: one code for both formats.
+#![tactic(auto)]
+
 mod again;
 mod factors;
 mod order;

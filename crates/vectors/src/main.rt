@@ -1,5 +1,7 @@
 // Runs the three programs' functions on many texts and prints what each gives, to be compared with what a second program
 // gives. A case is a line with the program's name and the length of its text, and then the text and a line feed.
+#![tactic(auto)]
+
 ghost use Rattle.std.specs.Prelude.{◌<◌, length, IfSome};
 
 use number_text::digit_value;
