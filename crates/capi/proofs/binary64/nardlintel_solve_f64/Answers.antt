@@ -4,7 +4,7 @@ use Rattle.capi.proofs.binary64.nardlintel_solve_f64.Goals as goal
 
 pub returns : goal.returns
 returns c =
-    let e = c.solve-outcome.ensures in
+    let e = c.solve_outcome.ensures in
     let w = c.report.ensures in
-    solve_plain binary64 c.args.n c.args.a.now c.args.b.now c.args.lu.now c.args.order.now c.args.x.now c.args.column.now c.solve-outcome.result c.report.result c.solve-outcome.new.lu c.solve-outcome.new.order c.solve-outcome.new.x c.report.new.column
+    solve_plain binary64 c.args.n c.args.a.now c.args.b.now c.args.lu.now c.args.order.now c.args.x.now c.args.column.now c.solve_outcome.result c.report.result c.solve_outcome.new.lu c.solve_outcome.new.order c.solve_outcome.new.x c.report.new.column
     e.outcome e.factors e.order e.answer e.stable w.number w.column

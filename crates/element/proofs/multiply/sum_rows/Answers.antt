@@ -18,9 +18,9 @@ loop-i-preserved g c =
     let y = c.loop-i.y in
     let i = c.loop-i.i in
     let within : i < length y = omega arith in
-    let row = row-values m.val c.args.n i c.args.a.now c.matrix-row.result.now c.matrix-row.ensures.entries in
-    let sum = c.sum-products.ensures ∙ ap (λ r. sum_products m.format r x) row in
-    let done = written m.val y i c.sum-products.result within ∙ ap (λ s. map m.val (take i y) ++ s ∷ []) sum in
+    let row = row-values m.val c.args.n i c.args.a.now c.matrix_row.result.now c.matrix_row.ensures.entries in
+    let sum = c.sum_products.ensures ∙ ap (λ r. sum_products m.format r x) row in
+    let done = written m.val y i c.sum_products.result within ∙ ap (λ s. map m.val (take i y) ++ s ∷ []) sum in
     subst (λ d. SumsTo m.format c.args.n a x d (i + 1) (sum_rows m.format (matrix c.args.n a) x)) (sym done) (sums_next m.format c.args.n a x (map m.val (take i y)) i _ c.loop-i-test.true c.loop-i.invariant)
 
 pub returns : goal.returns

@@ -25,7 +25,7 @@ loop-j-preserved g c =
     let hk : j < length (row m k) = omega (arith, length-row real.val n xs k (omega arith) long) in
     let e : real.val c.minus.result ≡ subtract_product f (at (row m r) j) l (at (row m k) j) =
     c.minus.ensures ∙ ap₂ (sub f) c.entry-in-loop-j-2.ensures (c.times-product.ensures ∙ ap (mul f l) c.entry-in-loop-j.ensures) in
-    row_next f k r (λ q. omega arith) m hm l (real.val c.minus.result) j (matrix_of real.val n c.set-entry-in-loop-j.new.m) _ hr hk e c.set-entry-in-loop-j.ensures c.loop-j.invariant
+    row_next f k r (λ q. omega arith) m hm l (real.val c.minus.result) j (matrix_of real.val n c.set_entry-in-loop-j.new.m) _ hr hk e c.set_entry-in-loop-j.ensures c.loop-j.invariant
 
 pub returns : goal.returns
 returns g c =
@@ -47,4 +47,4 @@ returns g c =
     let h : length (row (matrix_of real.val n ys) r) ≤ j = omega (arith, length-row real.val n ys r c.requires.row long) in
     let h' : length (row (matrix_of real.val n ys) k) ≤ j = omega (arith, length-row real.val n ys k hk long) in
     row_ends f k r l j (matrix_of real.val n ys) _ h h' c.loop-j.invariant
-    ∙ row_starts f k r (λ q. omega arith) m hm l (matrix_of real.val n c.set-entry.new.m) hr e c.set-entry.ensures
+    ∙ row_starts f k r (λ q. omega arith) m hm l (matrix_of real.val n c.set_entry.new.m) hr e c.set_entry.ensures

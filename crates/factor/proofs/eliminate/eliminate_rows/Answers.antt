@@ -9,7 +9,7 @@ loop-r-preserved g c =
     let real = g.R.Real in
     let m = matrix_of real.val c.args.n c.loop-r.m in
     let h : c.loop-r.r < length m = omega (arith, length-matrix real.val c.args.n c.loop-r.m) in
-    rows_next real.format c.args.k c.loop-r.r m (matrix_of real.val c.args.n c.eliminate-row.new.m) _ (omega arith) h c.eliminate-row.ensures c.loop-r.invariant
+    rows_next real.format c.args.k c.loop-r.r m (matrix_of real.val c.args.n c.eliminate_row.new.m) _ (omega arith) h c.eliminate_row.ensures c.loop-r.invariant
 
 pub returns : goal.returns
 returns g c =

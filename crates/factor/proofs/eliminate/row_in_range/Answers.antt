@@ -15,11 +15,11 @@ loop-j-preserved g c =
     let j = c.loop-j.j in
     let hk : j < length (row m c.args.k) = omega (arith, length-row real.val c.args.n xs c.args.k c.requires.column c.requires.matrix) in
     let hr : j < length (row m c.args.r) = omega (arith, length-row real.val c.args.n xs c.args.r c.requires.row c.requires.matrix) in
-    let test : c.is-some-in-range.result ≡ subtraction_in_range real.format (at (row m c.args.r) j) l (at (row m c.args.k) j) =
-    c.is-some-in-range.ensures
-    ∙ gives_some real.val _ _ c.subtract-product.result c.subtract-product.ensures
+    let test : c.is_some-in_range.result ≡ subtraction_in_range real.format (at (row m c.args.r) j) l (at (row m c.args.k) j) =
+    c.is_some-in_range.ensures
+    ∙ gives_some real.val _ _ c.subtract_product.result c.subtract_product.ensures
     ∙ ap₂ (λ x p. subtraction_in_range real.format x l p) c.entry.ensures c.entry-in-loop-j.ensures in
-    row_tests_next real.format l (row m c.args.k) (row m c.args.r) c.loop-j.in-range c.is-some-in-range.result j _ hk hr test c.loop-j.invariant
+    row_tests_next real.format l (row m c.args.k) (row m c.args.r) c.loop-j.in_range c.is_some-in_range.result j _ hk hr test c.loop-j.invariant
 
 pub returns : goal.returns
 returns g c =
@@ -27,4 +27,4 @@ returns g c =
     let xs = c.args.m.now in
     let m = matrix_of real.val c.args.n xs in
     let h : length (row m c.args.k) ≤ c.loop-j.j = omega (arith, length-row real.val c.args.n xs c.args.k c.requires.column c.requires.matrix) in
-    row_tests_end real.format (real.val c.over-l.result) (row m c.args.k) (row m c.args.r) c.loop-j.in-range c.loop-j.j _ h c.loop-j.invariant
+    row_tests_end real.format (real.val c.over-l.result) (row m c.args.k) (row m c.args.r) c.loop-j.in_range c.loop-j.j _ h c.loop-j.invariant

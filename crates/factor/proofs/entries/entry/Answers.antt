@@ -3,8 +3,8 @@ use Rattle.std.proofs.lemmas.Nat.{mul-add-lt}
 use Rattle.factor.proofs.Flat.{got}
 use Rattle.factor.proofs.entries.entry.Goals as goal
 
-pub offset-bounds-m-i : goal.offset-bounds-m-i
-offset-bounds-m-i g c = omega (arith, mul-add-lt c.args.i c.args.n c.args.j c.args.n c.requires.row c.requires.column)
+pub offset_bounds-m-i : goal.offset_bounds-m-i
+offset_bounds-m-i g c = omega (arith, mul-add-lt c.args.i c.args.n c.args.j c.args.n c.requires.row c.requires.column)
 
 pub bounds-m-i : goal.bounds-m-i
 bounds-m-i g c = omega (arith, mul-add-lt c.args.i c.args.n c.args.j c.args.n c.requires.row c.requires.column)

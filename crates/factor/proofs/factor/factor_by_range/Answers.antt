@@ -9,8 +9,8 @@ returns g c =
     let real = g.R.Real in
     let n = c.args.n in
     let a = c.args.a.now in
-    let full : factoring_of real.val n c.eliminate-columns.new.m c.eliminate-columns.new.order.places.now c.eliminate-columns.result ≡ factored real.format (matrix_of real.val n a) =
-    c.eliminate-columns.ensures.columns
-    ∙ ap₂ (λ x o. columns real.format n (factoring_of real.val n x o (Ok tt))) c.copy-from-slice.ensures.after (c.identity-places.ensures.start ∙ ap up_to c.requires.places)
+    let full : factoring_of real.val n c.eliminate_columns.new.m c.eliminate_columns.new.order.places.now c.eliminate_columns.result ≡ factored real.format (matrix_of real.val n a) =
+    c.eliminate_columns.ensures.columns
+    ∙ ap₂ (λ x o. columns real.format n (factoring_of real.val n x o (Ok tt))) c.copy_from_slice.ensures.after (c.identity-places.ensures.start ∙ ap up_to c.requires.places)
     ∙ factored-is real.val real.format n a in
     search rules

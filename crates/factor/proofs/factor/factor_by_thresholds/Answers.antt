@@ -9,8 +9,8 @@ returns g c =
     let real = g.R.Real in
     let n = c.args.n in
     let a = c.args.a.now in
-    let full : c.clear-columns.result ≡ true → factoring_of real.val n c.clear-columns.new.m c.clear-columns.new.order.places.now (Ok tt) ≡ factored real.format (matrix_of real.val n a) = λ b.
-    c.clear-columns.ensures.columns b
-    ∙ ap₂ (λ x o. columns real.format n (factoring_of real.val n x o (Ok tt))) c.copy-from-slice.ensures.after (c.identity-places.ensures.start ∙ ap up_to c.requires.places)
+    let full : c.clear_columns.result ≡ true → factoring_of real.val n c.clear_columns.new.m c.clear_columns.new.order.places.now (Ok tt) ≡ factored real.format (matrix_of real.val n a) = λ b.
+    c.clear_columns.ensures.columns b
+    ∙ ap₂ (λ x o. columns real.format n (factoring_of real.val n x o (Ok tt))) c.copy_from_slice.ensures.after (c.identity-places.ensures.start ∙ ap up_to c.requires.places)
     ∙ factored-is real.val real.format n a in
     search rules

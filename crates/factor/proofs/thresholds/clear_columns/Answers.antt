@@ -12,8 +12,8 @@ use Rattle.factor.proofs.thresholds.clear_columns.Goals as goal
 pub loop-k-init : goal.loop-k-init
 loop-k-init g c = ((λ _. columns-none g.R.Real.format _), c.requires.places, refl)
 
-pub returns-then-not-clear-column : goal.returns-then-not-clear-column
-returns-then-not-clear-column g c = record { columns = λ b. absurd (false≢true b); lends = c.clear-column.ensures.lends ∙ c.loop-k.invariant.2 }
+pub returns-then-not-clear_column : goal.returns-then-not-clear_column
+returns-then-not-clear_column g c = record { columns = λ b. absurd (false≢true b); lends = c.clear_column.ensures.lends ∙ c.loop-k.invariant.2 }
 
 pub loop-k-preserved : goal.loop-k-preserved
 loop-k-preserved g c =
@@ -23,7 +23,7 @@ loop-k-preserved g c =
     let k = c.loop-k.k in
     let xs = c.loop-k.m in
     let hk = c.loop-k-test.true in
-    let e = c.if-not-clear-column.ensures in
+    let e = c.if-not-clear_column.ensures in
     let start = factoring_of real.val n c.args.m.now c.args.order.now.places.now (Ok tt) in
     let before = factoring_of real.val n xs c.loop-k.order.places.now (Ok tt) in
     let long : length xs ≡ n * n = omega arith in
@@ -45,6 +45,6 @@ returns g c =
     let start = factoring_of real.val n c.args.m.now c.args.order.now.places.now (Ok tt) in
     let end : c.loop-k.k ≡ n = omega arith in
     record {
-      columns = λ b. c.loop-k.invariant.0 (finite-matrix real.val n c.loop-k.m (sym c.all-finite.ensures ∙ b)) ∙ ap (λ k. columns real.format k start) end;
+      columns = λ b. c.loop-k.invariant.0 (finite-matrix real.val n c.loop-k.m (sym c.all_finite.ensures ∙ b)) ∙ ap (λ k. columns real.format k start) end;
       lends = c.loop-k.invariant.2;
     }

@@ -16,7 +16,7 @@ loop-i-preserved g c =
     let i = c.loop-i.i in
     let h : i < length m = omega (arith, length-matrix real.val c.args.n c.args.m.now) in
     let e =
-    ap₂ ◌||◌ c.is-zero.ensures (c.reaches-threshold.ensures ∙ ap (reaches f) c.over.ensures)
+    ap₂ ◌||◌ c.is_zero.ensures (c.reaches_threshold.ensures ∙ ap (reaches f) c.over.ensures)
     ∙ ap₂ (λ x p. is_zero x || reaches f (div f x p)) c.entry-x.ensures c.entry-pivot.ensures in
     multipliers-next f c.args.k (row m c.args.k) m c.loop-i.reached _ i _ h e c.loop-i.invariant
 

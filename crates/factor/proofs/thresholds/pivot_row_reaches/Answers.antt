@@ -13,7 +13,7 @@ loop-j-preserved g c =
     let p = row (matrix_of real.val c.args.n xs) c.args.k in
     let j = c.loop-j.j in
     let h : j < length p = omega (arith, length-row real.val c.args.n xs c.args.k c.requires.column c.requires.matrix) in
-    let e = ap₂ ◌||◌ c.is-zero.ensures c.reaches-threshold.ensures ∙ ap (zero_or_reaches real.format) c.entry-x.ensures in
+    let e = ap₂ ◌||◌ c.is_zero.ensures c.reaches_threshold.ensures ∙ ap (zero_or_reaches real.format) c.entry-x.ensures in
     reach_next real.format p c.loop-j.reached _ j _ h e c.loop-j.invariant
 
 pub returns : goal.returns

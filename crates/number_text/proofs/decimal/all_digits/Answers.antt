@@ -14,7 +14,7 @@ returns c =
     let w = c.args.whole.now in
     let t = c.args.fraction.now in
     let n = length-append w t in
-    let e = c.joined-digits.ensures ∙ numeral_given 10 15 (w ++ t) (omega arith) (omega arith) in
+    let e = c.joined_digits.ensures ∙ numeral_given 10 15 (w ++ t) (omega arith) (omega arith) in
     record {
       value = e;
       bound = subst (λ o. IfSome o (λ m. (m < 10 ^ 15) × (length t ≤ 15))) (sym e) (bound_with (numeral 10 15 (w ++ t)) (λ m. m < 10 ^ 15) (length t ≤ 15) (omega arith) (numeral-lt 10 15 (w ++ t) (omega arith)));

@@ -2,8 +2,8 @@ use Rattle.std.proofs.Common.{◌≤◌, ◌∙◌, arith}
 use Rattle.number_text.proofs.Quotients.{doubling_left, doubling_step}
 use Rattle.number_text.proofs.decimal.doubled_to.Goals as goal
 
-pub overflow-sub-k : goal.overflow-sub-k
-overflow-sub-k c = doubling_left c.loop-n.n c.loop-n.k c.args.m c.args.place c.requires.0 (omega arith) c.requires.3 c.loop-n.invariant.2
+pub overflow_sub-k : goal.overflow_sub-k
+overflow_sub-k c = doubling_left c.loop-n.n c.loop-n.k c.args.m c.args.place c.requires.0 (omega arith) c.requires.3 c.loop-n.invariant.2
 
 pub loop-n-preserved : goal.loop-n-preserved
 loop-n-preserved c =

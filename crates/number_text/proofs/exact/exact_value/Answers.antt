@@ -8,7 +8,7 @@ use Rattle.number_text.proofs.exact.exact_value.Goals.{then-digits-precision-via
 
 pub returns-then-m-eq0 : goal.returns-then-m-eq0
 returns-then-m-eq0 g c =
-    zero-exactly g.R.Real.format c.args.negative c.args.m c.args.up c.args.down c.if-m-eq0.true (g.R.Real.val c.from-units.result) c.from-units.ensures
+    zero-exactly g.R.Real.format c.args.negative c.args.m c.args.up c.args.down c.if-m-eq0.true (g.R.Real.val c.from_units.result) c.from_units.ensures
 
 pub returns-then-above-down : goal.returns-then-above-down
 returns-then-above-down g c =
@@ -37,8 +37,8 @@ returns-then-digits-precision g c =
           refused-above f a.negative a.m a.up a.down M (a.up + count_trailing_zeros 64 a.m + c.low-low.result - a.down) (omega arith) (64 - count_leading_zeros 64 (whole a.m)) z.0 z.1 (omega (arith, two f, w.if-digits-place.true))
     ]
 
-pub from-units-requires-2 : goal.from-units-requires-2
-from-units-requires-2 g c =
+pub from_units-requires-2 : goal.from_units-requires-2
+from_units-requires-2 g c =
     let f = g.R.Real.format in
     let a = c.args in
     let z = sized a.m (omega arith) c.requires.0 in
@@ -63,4 +63,4 @@ returns g c =
     accepted f a.negative a.m a.up a.down M place (omega arith) (omega (arith, c.requires.0)) (whole a.m * 2 ^ room % 2 ^ 64) room (place - room)
     (moved-whole f (whole a.m) d place room z.0 z.1 z.2 h1 h2 h3) (omega arith)
     (moved-held f (whole a.m) d place room z.0 z.1 z.2 h1 h2 h3)
-    (g.R.Real.val c.from-units-2.result) c.from-units-2.ensures
+    (g.R.Real.val c.from_units-2.result) c.from_units-2.ensures

@@ -4,11 +4,11 @@ use Rattle.number_text.specs.Number.{before}
 use Rattle.number_text.proofs.Parts.{drop-before, before-length}
 use Rattle.number_text.proofs.numeral.after_byte.Goals as goal
 
-pub slice-bounds-result-count-else-at-text : goal.slice-bounds-result-count-else-at-text
-slice-bounds-result-count-else-at-text c = omega (arith, c.find-at.ensures, before-length c.args.c c.args.text.now)
+pub slice_bounds-result-count-else-at-text : goal.slice_bounds-result-count-else-at-text
+slice_bounds-result-count-else-at-text c = omega (arith, c.find-at.ensures, before-length c.args.c c.args.text.now)
 
-pub slice-bounds-result-start-else-at-text : goal.slice-bounds-result-start-else-at-text
-slice-bounds-result-start-else-at-text c = omega (arith, c.find-at.ensures, before-length c.args.c c.args.text.now)
+pub slice_bounds-result-start-else-at-text : goal.slice_bounds-result-start-else-at-text
+slice_bounds-result-start-else-at-text c = omega (arith, c.find-at.ensures, before-length c.args.c c.args.text.now)
 
 pub returns-then-at-text : goal.returns-then-at-text
 returns-then-at-text c =

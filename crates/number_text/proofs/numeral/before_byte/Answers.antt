@@ -3,8 +3,8 @@ use Rattle.number_text.specs.Number.{before}
 use Rattle.number_text.proofs.Parts.{take-before, before-length}
 use Rattle.number_text.proofs.numeral.before_byte.Goals as goal
 
-pub slice-bounds-result-end : goal.slice-bounds-result-end
-slice-bounds-result-end c = omega (arith, c.find-at.ensures, before-length c.args.c c.args.text.now)
+pub slice_bounds-result-end : goal.slice_bounds-result-end
+slice_bounds-result-end c = omega (arith, c.find-at.ensures, before-length c.args.c c.args.text.now)
 
 pub returns : goal.returns
 returns c =

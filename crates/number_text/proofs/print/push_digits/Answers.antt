@@ -8,6 +8,6 @@ pub returns : goal.returns
 returns c =
     let text = c.spell-start.new.buffer in
     let start = c.spell-start.result in
-    extended c.extend-from-slice.result (vec_items c.args.out.now) (vec_items c.extend-from-slice.new.self) (take (64 - start) (drop start text)) (digits c.args.base false c.args.n)
+    extended c.extend_from_slice.result (vec_items c.args.out.now) (vec_items c.extend_from_slice.new.self) (take (64 - start) (drop start text)) (digits c.args.base false c.args.n)
     (take_all (64 - start) (drop start text) (omega (arith, length-drop start text, c.spell-start.array_long)) ∙ c.spell-start.ensures.value)
-    c.extend-from-slice.ensures.items
+    c.extend_from_slice.ensures.items

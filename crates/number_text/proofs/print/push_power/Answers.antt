@@ -7,5 +7,5 @@ use Rattle.number_text.proofs.print.push_power.Goals as goal
 pub returns : goal.returns
 returns c =
     let a = c.args in
-    appended-after c.push-digits-2.result (vec_items a.out.now) (vec_items c.push-digits-2.new.out) (vec_items c.push.new.self) (45 ∷ []) (digits 10 false (a.below - a.above)) (signed_decimal (minus a.above a.below))
-    c.in-ok-push.ensures.items (power_below a.above a.below c.if-below-above.false) c.push-digits-2.ensures
+    appended-after c.push_digits-2.result (vec_items a.out.now) (vec_items c.push_digits-2.new.out) (vec_items c.push.new.self) (45 ∷ []) (digits 10 false (a.below - a.above)) (signed_decimal (minus a.above a.below))
+    c.in_ok-push.ensures.items (power_below a.above a.below c.if-below-above.false) c.push_digits-2.ensures

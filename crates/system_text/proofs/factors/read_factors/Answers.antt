@@ -16,10 +16,10 @@ returns-then-len-head g c =
     let m = g.R.Real in
     let n = c.args.head.size in
     let ws = left c.args.words.now in
-    let o = c.in-ok-order.order in
-    let l = c.in-ok-lu.lu in
+    let o = c.in_ok-order.order in
+    let l = c.in_ok-lu.lu in
     λ _. complete_short (head_read ws c.args.head) (places_of (take n ws)) (numbers_of m.format (take (n * n) (drop n ws))) (vec_items o) (map m.val (vec_items l))
-    c.in-ok-order.ensures.places (sym (ap (λ v. formed (numbers_of m.format (take (n * n) v))) c.in-ok-order.ensures.rest) ∙ c.in-ok-lu.ensures.numbers)
+    c.in_ok-order.ensures.places (sym (ap (λ v. formed (numbers_of m.format (take (n * n) v))) c.in_ok-order.ensures.rest) ∙ c.in_ok-lu.ensures.numbers)
     (sym (ap (λ i. short n i c.len-2.result) (c.len.ensures ∙ o.ok.0) ∙ ap (short n (length (vec_items o))) (c.len-2.ensures ∙ l.ok.0 ∙ sym (length-map (vec_items l) m.val))) ∙ c.if-len-head.true)
 
 pub returns : goal.returns
@@ -27,9 +27,9 @@ returns g c =
     let m = g.R.Real in
     let n = c.args.head.size in
     let ws = left c.args.words.now in
-    let o = c.in-ok-order.order in
-    let l = c.in-ok-lu.lu in
+    let o = c.in_ok-order.order in
+    let l = c.in_ok-lu.lu in
     complete-read (head_read ws c.args.head) (places_of (take n ws)) (numbers_of m.format (take (n * n) (drop n ws))) (vec_items o) (map m.val (vec_items l))
-    c.in-ok-order.ensures.places (sym (ap (λ v. formed (numbers_of m.format (take (n * n) v))) c.in-ok-order.ensures.rest) ∙ c.in-ok-lu.ensures.numbers)
+    c.in_ok-order.ensures.places (sym (ap (λ v. formed (numbers_of m.format (take (n * n) v))) c.in_ok-order.ensures.rest) ∙ c.in_ok-lu.ensures.numbers)
     (sym (ap (λ i. short n i c.len-2.result) (c.len.ensures ∙ o.ok.0) ∙ ap (short n (length (vec_items o))) (c.len-2.ensures ∙ l.ok.0 ∙ sym (length-map (vec_items l) m.val))) ∙ c.if-len-head.false)
-    ∙ ap (λ r. Ok (factors_read m.val c.args.head (vec_items o) (vec_items l) r)) (sym (c.in-ok-lu.ensures.rest ∙ ap (drop (n * n)) c.in-ok-order.ensures.rest))
+    ∙ ap (λ r. Ok (factors_read m.val c.args.head (vec_items o) (vec_items l) r)) (sym (c.in_ok-lu.ensures.rest ∙ ap (drop (n * n)) c.in_ok-order.ensures.rest))

@@ -6,22 +6,22 @@ use Rattle.system_text.proofs.All.{read_word, read_bad, read_all, read_end}
 use Rattle.system_text.proofs.factors.read_order.Goals as goal
 use Rattle.system_text.proofs.factors.read_order.Goals.{else-loop-words-test, then-loop-words-test+in-default}
 
-pub returns-in-default-read-whole : goal.returns-in-default-read-whole
-returns-in-default-read-whole c =
+pub returns-in-default-read_whole : goal.returns-in-default-read_whole
+returns-in-default-read_whole c =
     let l = c.loop-words in
     record {
       places = λ _. ap formed (
-          read_bad place c.args.most (left c.args.words.now) (left l.words) (left c.next-word.new.self) (vec_items l.order) (vec_len l.order) c.in-Some.word.now
-          l.invariant (omega arith) c.in-Some.ensures (sym c.in-default-read-whole.ensures));
+          read_bad place c.args.most (left c.args.words.now) (left l.words) (left c.next_word.new.self) (vec_items l.order) (vec_len l.order) c.in-Some.word.now
+          l.invariant (omega arith) c.in-Some.ensures (sym c.in-default-read_whole.ensures));
       rest = tt;
     }
 
 pub loop-words-preserved : goal.loop-words-preserved
 loop-words-preserved c =
     let l = c.loop-words in
-    read_word place c.args.most (left c.args.words.now) (left l.words) (left c.next-word.new.self)
-    (vec_items l.order) (vec_items c.push.new.self) (vec_len l.order) (vec_len c.push.new.self) c.in-Some.word.now c.in-Some-read-whole.place
-    l.invariant (omega arith) c.in-Some.ensures (sym c.in-Some-read-whole.ensures) c.in-ok-push.ensures.items c.in-ok-push.ensures.len
+    read_word place c.args.most (left c.args.words.now) (left l.words) (left c.next_word.new.self)
+    (vec_items l.order) (vec_items c.push.new.self) (vec_len l.order) (vec_len c.push.new.self) c.in-Some.word.now c.in-Some-read_whole.place
+    l.invariant (omega arith) c.in-Some.ensures (sym c.in-Some-read_whole.ensures) c.in_ok-push.ensures.items c.in_ok-push.ensures.len
 
 pub returns : goal.returns
 returns c =

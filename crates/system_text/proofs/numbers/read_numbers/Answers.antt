@@ -10,27 +10,27 @@ use Rattle.system_text.proofs.Refused.{refused}
 use Rattle.system_text.proofs.numbers.read_numbers.Goals as goal
 use Rattle.system_text.proofs.numbers.read_numbers.Goals.{else-loop-words-test, then-loop-words-test+in-default}
 
-pub returns-in-err-read-number : goal.returns-in-err-read-number
-returns-in-err-read-number g c =
+pub returns-in_err-read_number : goal.returns-in_err-read_number
+returns-in_err-read_number g c =
     let m = g.R.Real in
     let l = c.loop-words in
-    let p = err_from_is_err_and c.from-residual.result c.from-residual.ensures.1 in
+    let p = err_from_is_err_and c.from_residual.result c.from_residual.ensures.1 in
     record {
       numbers = refused _ _ _ Form (p.1 ∙ ap Err p.2) (λ _. ap formed (
-          read_bad (number_of m.format) c.args.most (left c.args.words.now) (left l.words) (left c.next-word.new.self) (map m.val (vec_items l.numbers)) (vec_len l.numbers) c.in-Some.word.now
-          l.invariant (omega arith) c.in-Some.ensures (sym c.in-err-read-number.ensures)));
-      rest = IfOk-from_err _ _ c.from-residual.ensures.0;
+          read_bad (number_of m.format) c.args.most (left c.args.words.now) (left l.words) (left c.next_word.new.self) (map m.val (vec_items l.numbers)) (vec_len l.numbers) c.in-Some.word.now
+          l.invariant (omega arith) c.in-Some.ensures (sym c.in_err-read_number.ensures)));
+      rest = IfOk-from_err _ _ c.from_residual.ensures.0;
     }
 
 pub loop-words-preserved : goal.loop-words-preserved
 loop-words-preserved g c =
     let m = g.R.Real in
     let l = c.loop-words in
-    let x = c.in-ok-read-number.field-0 in
-    read_word (number_of m.format) c.args.most (left c.args.words.now) (left l.words) (left c.next-word.new.self)
+    let x = c.in_ok-read_number.field-0 in
+    read_word (number_of m.format) c.args.most (left c.args.words.now) (left l.words) (left c.next_word.new.self)
     (map m.val (vec_items l.numbers)) (map m.val (vec_items c.push.new.self)) (vec_len l.numbers) (vec_len c.push.new.self) c.in-Some.word.now (m.val x)
-    l.invariant (omega arith) c.in-Some.ensures (sym c.in-ok-read-number.ensures)
-    (ap (map m.val) c.in-ok-push.ensures.items ∙ map-append m.val (vec_items l.numbers) (x ∷ [])) c.in-ok-push.ensures.len
+    l.invariant (omega arith) c.in-Some.ensures (sym c.in_ok-read_number.ensures)
+    (ap (map m.val) c.in_ok-push.ensures.items ∙ map-append m.val (vec_items l.numbers) (x ∷ [])) c.in_ok-push.ensures.len
 
 pub returns : goal.returns
 returns g c =

@@ -7,14 +7,14 @@ use Rattle.system_text.specs.Read.{head_read}
 use Rattle.text_calls.proofs.RightSides.{complete-count}
 use Rattle.text_calls.proofs.again.again_factors.Goals as goal
 
-pub factors-sound-requires : goal.factors-sound-requires
-factors-sound-requires g c =
+pub factors_sound-requires : goal.factors_sound-requires
+factors_sound-requires g c =
     let m = g.R.Real in
     let h = c.args.head in
     let n = h.size in
     let ws = left c.args.words.now in
     record {
       size = h.taken.1;
-      matrix = ap length c.deref.ensures.value ∙ sym (length-map (vec_items c.in-ok-factors.factors.lu) m.val)
-          ∙ complete-count (head_read ws h) (places_of (take n ws)) (numbers_of m.format (take (n * n) (drop n ws))) _ c.in-ok-factors.ensures;
+      matrix = ap length c.deref.ensures.value ∙ sym (length-map (vec_items c.in_ok-factors.factors.lu) m.val)
+          ∙ complete-count (head_read ws h) (places_of (take n ws)) (numbers_of m.format (take (n * n) (drop n ws))) _ c.in_ok-factors.ensures;
     }

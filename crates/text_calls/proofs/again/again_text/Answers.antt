@@ -8,4 +8,4 @@ use Rattle.text_calls.proofs.again.again_text.Goals as goal
 pub returns : goal.returns
 returns c =
     let t = c.args.text.now in
-    IfOk-weaker c.printed-lines.result _ _ (λ v h. h (again_lines t) c.again-lines.ensures ∙ lines-printed (factors_of t)) c.printed-lines.ensures
+    IfOk-weaker c.printed_lines.result _ _ (λ v h. h (again_lines t) c.again_lines.ensures ∙ lines-printed (factors_of t)) c.printed_lines.ensures

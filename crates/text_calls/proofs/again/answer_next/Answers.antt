@@ -7,44 +7,44 @@ use Rattle.system_text.specs.Left.{left}
 use Rattle.text_calls.proofs.RightSides.{enough_numbers, none_left, too_few, no_number, answered}
 use Rattle.text_calls.proofs.again.answer_next.Goals as goal
 
-pub returns-then-is-empty : goal.returns-then-is-empty
-returns-then-is-empty g c =
+pub returns-then-is_empty : goal.returns-then-is_empty
+returns-then-is_empty g c =
     let m = g.R.Real in
     let b = c.in-Ok.b in
-    none_left m.format c.args.n (map m.val c.args.lu.now) c.args.order.now c.requires (left c.args.words.now) (left c.read-numbers.new.words)
+    none_left m.format c.args.n (map m.val c.args.lu.now) c.args.order.now c.requires (left c.args.words.now) (left c.read_numbers.new.words)
     (vec_items c.args.out.now) (vec_items c.args.out.now) (map m.val (vec_items b)) c.in-Ok.ensures.numbers
-    (length-map (vec_items b) m.val ∙ sym b.ok.0 ∙ eqb-true (vec_len b) 0 (sym c.if-is-empty.ensures)) refl
+    (length-map (vec_items b) m.val ∙ sym b.ok.0 ∙ eqb-true (vec_len b) 0 (sym c.if-is_empty.ensures)) refl
 
 pub returns-then-len-n : goal.returns-then-len-n
 returns-then-len-n g c =
     let m = g.R.Real in
     let b = c.in-Ok.b in
     let count = length-map (vec_items b) m.val ∙ sym b.ok.0 in
-    too_few m.format c.args.n (map m.val c.args.lu.now) c.args.order.now c.requires (left c.args.words.now) (left c.read-numbers.new.words)
-    (vec_items c.args.out.now) (vec_items c.write-refusal.new.out) (map m.val (vec_items b)) c.in-Ok.ensures.numbers
-    (λ z. eqb-false (vec_len b) 0 (sym c.if-is-empty.ensures) (sym count ∙ z)) (omega (arith, count, c.len.ensures, c.if-len-n.true)) c.in-ok-write-refusal.ensures
+    too_few m.format c.args.n (map m.val c.args.lu.now) c.args.order.now c.requires (left c.args.words.now) (left c.read_numbers.new.words)
+    (vec_items c.args.out.now) (vec_items c.write_refusal.new.out) (map m.val (vec_items b)) c.in-Ok.ensures.numbers
+    (λ z. eqb-false (vec_len b) 0 (sym c.if-is_empty.ensures) (sym count ∙ z)) (omega (arith, count, c.len.ensures, c.if-len-n.true)) c.in_ok-write_refusal.ensures
 
-pub solve-again-requires : goal.solve-again-requires
-solve-again-requires g c =
+pub solve_again-requires : goal.solve_again-requires
+solve_again-requires g c =
     let m = g.R.Real in
     let b = c.in-Ok.b in
     let count = length-map (vec_items b) m.val in
     omega (arith, c.deref.ensures.len, count, b.ok.0, enough_numbers m.format c.args.n (left c.args.words.now) (map m.val (vec_items b)) c.in-Ok.ensures.numbers (omega (arith, count, b.ok.0, c.len.ensures, c.if-len-n.false)))
 
-pub returns-in-ok-write-outcome : goal.returns-in-ok-write-outcome
-returns-in-ok-write-outcome g c =
+pub returns-in_ok-write_outcome : goal.returns-in_ok-write_outcome
+returns-in_ok-write_outcome g c =
     let m = g.R.Real in
     let b = c.in-Ok.b in
     let n = c.args.n in
     let lu = map m.val c.args.lu.now in
     let order = c.args.order.now in
     let before = vec_items c.args.out.now in
-    answered m.format n lu order c.requires (left c.args.words.now) (left c.read-numbers.new.words) before (vec_items c.write-outcome.new.out) (map m.val (vec_items b)) c.in-Ok.ensures.numbers
+    answered m.format n lu order c.requires (left c.args.words.now) (left c.read_numbers.new.words) before (vec_items c.write_outcome.new.out) (map m.val (vec_items b)) c.in-Ok.ensures.numbers
     (omega (arith, length-map (vec_items b) m.val, b.ok.0, c.len.ensures, c.if-len-n.false)) c.in-Ok.ensures.rest
-    (c.in-ok-write-outcome.ensures _ c.solve-again.ensures ∙ ap (λ x. before ++ outcome answer (solved_again m.format n lu order (map m.val x))) c.deref.ensures.value)
+    (c.in_ok-write_outcome.ensures _ c.solve_again.ensures ∙ ap (λ x. before ++ outcome answer (solved_again m.format n lu order (map m.val x))) c.deref.ensures.value)
 
-pub returns-in-ok-write-refusal-2 : goal.returns-in-ok-write-refusal-2
-returns-in-ok-write-refusal-2 g c =
+pub returns-in_ok-write_refusal-2 : goal.returns-in_ok-write_refusal-2
+returns-in_ok-write_refusal-2 g c =
     let m = g.R.Real in
-    no_number m.format c.args.n (map m.val c.args.lu.now) c.args.order.now c.requires (left c.args.words.now) (left c.read-numbers.new.words)
-    (vec_items c.args.out.now) (vec_items c.write-refusal-in-Err.new.out) c.in-Err.refusal (c.in-Err.ensures.numbers (λ e. search rules)) c.in-ok-write-refusal-2.ensures
+    no_number m.format c.args.n (map m.val c.args.lu.now) c.args.order.now c.requires (left c.args.words.now) (left c.read_numbers.new.words)
+    (vec_items c.args.out.now) (vec_items c.write_refusal-in-Err.new.out) c.in-Err.refusal (c.in-Err.ensures.numbers (λ e. search rules)) c.in_ok-write_refusal-2.ensures

@@ -8,4 +8,4 @@ use Rattle.text_calls.proofs.factors.factors_text.Goals as goal
 pub returns : goal.returns
 returns c =
     let t = c.args.text.now in
-    IfOk-weaker c.printed-lines.result _ _ (λ v h. h (factors_lines t) c.factor-lines.ensures ∙ factors-shown (system_of t)) c.printed-lines.ensures
+    IfOk-weaker c.printed_lines.result _ _ (λ v h. h (factors_lines t) c.factor_lines.ensures ∙ factors-shown (system_of t)) c.printed_lines.ensures

@@ -2,11 +2,11 @@ use Rattle.std.proofs.Common.{◌≡◌, ◌+◌, ◌-◌, ◌*◌, ◌≤◌, l
 use Rattle.text_calls.proofs.Entries.{row_end, row-long, matrix-next, matrix_end}
 use Rattle.text_calls.proofs.rows.matrix_of.Goals as goal
 
-pub offset-bounds-entries-start : goal.offset-bounds-entries-start
-offset-bounds-entries-start g c = omega (arith, row_end c.args.n c.loop-i.i c.loop-i-test.true)
+pub offset_bounds-entries-start : goal.offset_bounds-entries-start
+offset_bounds-entries-start g c = omega (arith, row_end c.args.n c.loop-i.i c.loop-i-test.true)
 
-pub slice-bounds-extend-from-slice-end : goal.slice-bounds-extend-from-slice-end
-slice-bounds-extend-from-slice-end g c =
+pub slice_bounds-extend_from_slice-end : goal.slice_bounds-extend_from_slice-end
+slice_bounds-extend_from_slice-end g c =
     let h : c.loop-i.i * (c.args.n + 1) + c.args.n ≤ length c.args.entries.now = omega (arith, row_end c.args.n c.loop-i.i c.loop-i-test.true) in
     search rules
 
@@ -16,7 +16,7 @@ loop-i-preserved g c =
     let i = c.loop-i.i in
     let es = c.args.entries.now in
     let h = c.loop-i-test.true in
-    let added = c.in-ok-extend-from-slice.ensures in
+    let added = c.in_ok-extend_from_slice.ensures in
     let size : i * (n + 1) + n - i * (n + 1) ≡ n = omega arith in
     let row : take (i * (n + 1) + n - i * (n + 1)) (drop (i * (n + 1)) es) ≡ take n (drop (i * (n + 1)) es) = ap (λ k. take k (drop (i * (n + 1)) es)) size in
     (matrix-next g.R.Real.val n es i (vec_items c.loop-i.matrix) _ h _ row added.items c.loop-i.invariant.0, omega (arith, added.len, ap length row, row-long n i es h c.requires.count))

@@ -9,7 +9,7 @@ loop-row-preserved g c =
     let xs = vec_items c.loop-row.row in
     let k = vec_len c.loop-row.row in
     let x = c.zero.result in
-    let added = c.in-ok-push.ensures in (
+    let added = c.in_ok-push.ensures in (
       ap (map v) added.items ∙ map_push v xs x ∙ ap (λ zs. zs ++ v x ∷ []) c.loop-row.invariant.0 ∙ ap (λ y. replicate k zero_float ++ y ∷ []) c.zero.ensures
           ∙ replicate_more k zero_float ∙ ap (λ i. replicate i zero_float) (sym added.len),
       omega (arith, added.len),

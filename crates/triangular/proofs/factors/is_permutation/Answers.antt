@@ -8,15 +8,15 @@ pub returns-then-not-row-n : goal.returns-then-not-row-n
 returns-then-not-row-n c =
     let xs = c.args.order.now in
     let i = c.loop-i.i in
-    let a = c.is-among.ensures ∙ ap (among (get_or xs i 0)) (take_rest xs (i + 1)) in
-    sym (once_fail c.args.n xs i _ c.loop-i-test.true c.loop-i.invariant c.is-among.result a c.if-not-row-n.true)
+    let a = c.is_among.ensures ∙ ap (among (get_or xs i 0)) (take_rest xs (i + 1)) in
+    sym (once_fail c.args.n xs i _ c.loop-i-test.true c.loop-i.invariant c.is_among.result a c.if-not-row-n.true)
 
 pub loop-i-preserved : goal.loop-i-preserved
 loop-i-preserved c =
     let xs = c.args.order.now in
     let i = c.loop-i.i in
-    let a = c.is-among.ensures ∙ ap (among (get_or xs i 0)) (take_rest xs (i + 1)) in
-    once-next c.args.n xs i _ c.loop-i-test.true c.loop-i.invariant c.is-among.result a c.if-not-row-n.false
+    let a = c.is_among.ensures ∙ ap (among (get_or xs i 0)) (take_rest xs (i + 1)) in
+    once-next c.args.n xs i _ c.loop-i-test.true c.loop-i.invariant c.is_among.result a c.if-not-row-n.false
 
 pub returns : goal.returns
 returns c = sym (once_end c.args.n c.args.order.now c.loop-i.i _ c.loop-i-test.false c.loop-i.invariant)

@@ -8,13 +8,13 @@ use Rattle.triangular.proofs.solves.backward_solve.Goals as goal
 pub loop-i-init : goal.loop-i-init
 loop-i-init g c = solved-none g.R.Real.val g.R.Real.format c.args.n c.args.lu.now c.args.work.now c.requires.row
 
-pub offset-bounds-lu-i : goal.offset-bounds-lu-i
-offset-bounds-lu-i g c =
+pub offset_bounds-lu-i : goal.offset_bounds-lu-i
+offset_bounds-lu-i g c =
     let h : c.loop-i.i - 1 < c.args.n = omega arith in
     omega (arith, entry-within c.args.n (c.loop-i.i - 1) (c.loop-i.i - 1) h h)
 
-pub slice-bounds-subtract-products-end : goal.slice-bounds-subtract-products-end
-slice-bounds-subtract-products-end g c =
+pub slice_bounds-subtract_products-end : goal.slice_bounds-subtract_products-end
+slice_bounds-subtract_products-end g c =
     let p = c.loop-i.i - 1 in
     let n = c.args.n in
     let h : p < n = omega arith in
@@ -33,8 +33,8 @@ returns-in-default g c =
       entries = λ e. absurd (false≢true e);
     }
 
-pub offset-bounds-lu-i-in-loop-i : goal.offset-bounds-lu-i-in-loop-i
-offset-bounds-lu-i-in-loop-i g c =
+pub offset_bounds-lu-i-in-loop-i : goal.offset_bounds-lu-i-in-loop-i
+offset_bounds-lu-i-in-loop-i g c =
     let h : c.loop-i.i - 1 < c.args.n = omega arith in
     omega (arith, entry-within c.args.n (c.loop-i.i - 1) (c.loop-i.i - 1) h h)
 

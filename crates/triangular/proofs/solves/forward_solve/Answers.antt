@@ -13,11 +13,11 @@ loop-i-init g c =
     let rows = rows_all c.args.n (map m.val c.args.lu.now) in
     (refl, ap (λ rs. forward m.format rs right []) rows, ap (λ rs. forward_in_range m.format rs right []) rows)
 
-pub offset-bounds-lu-i : goal.offset-bounds-lu-i
-offset-bounds-lu-i g c = omega (arith, row_within c.args.n c.loop-i.i c.loop-i-test.true)
+pub offset_bounds-lu-i : goal.offset_bounds-lu-i
+offset_bounds-lu-i g c = omega (arith, row_within c.args.n c.loop-i.i c.loop-i-test.true)
 
-pub slice-bounds-subtract-products-end : goal.slice-bounds-subtract-products-end
-slice-bounds-subtract-products-end g c =
+pub slice_bounds-subtract_products-end : goal.slice_bounds-subtract_products-end
+slice_bounds-subtract_products-end g c =
     let h : c.loop-i.i * c.args.n + c.loop-i.i ≤ length c.args.lu.now = omega (arith, row_within c.args.n c.loop-i.i c.loop-i-test.true) in
     search rules
 

@@ -5,5 +5,5 @@ use Rattle.element.proofs.binary64.F64Real.in_range.Goals as goal
 
 pub returns : goal.returns
 returns c =
-    ap₂ ◌&&◌ c.is-finite.ensures.value (ap (le (of_bits binary64 103582791429521408)) c.abs.ensures.value)
-    ∙ in_range_lem binary64 _ _ _ c.args.self least64 least_bits64 (subst T (sym c.well-formed.0.1) tt)
+    ap₂ ◌&&◌ c.is_finite.ensures.value (ap (le (of_bits binary64 103582791429521408)) c.abs.ensures.value)
+    ∙ in_range_lem binary64 _ _ _ c.args.self least64 least_bits64 (subst T (sym c.well_formed.0.1) tt)

@@ -8,7 +8,7 @@ use Rattle.element.proofs.call.F64Multiply.multiply.Goals as goal
 
 pub returns : goal.returns
 returns c =
-    let e = c.multiply-matrix.ensures in
+    let e = c.multiply_matrix.ensures in
     let a = c.args.a.now in
     let x = c.args.x.now in
     let y = c.args.y.now in
@@ -18,6 +18,6 @@ returns c =
       output = e.output;
       kept = e.kept;
       near =
-          multiply_near binary64 c.args.n (map (λ z. z) a) (map (λ z. z) x) (map (λ z. z) y) (map (λ z. z) c.multiply-matrix.new.y) c.multiply-matrix.result
-          (fit-values binary64 a c.type-inv.a) (fit-values binary64 x c.type-inv.x) o e.output;
+          multiply_near binary64 c.args.n (map (λ z. z) a) (map (λ z. z) x) (map (λ z. z) y) (map (λ z. z) c.multiply_matrix.new.y) c.multiply_matrix.result
+          (fit-values binary64 a c.type_inv.a) (fit-values binary64 x c.type_inv.x) o e.output;
     }

@@ -6,9 +6,9 @@ use Rattle.solver.proofs.call.F32Solver.again.Goals as goal
 
 pub returns : goal.returns
 returns c =
-    let e = c.again-outcome.ensures in
+    let e = c.again_outcome.ensures in
     record {
-      number = c.outcome-number.ensures ∙ ap (outcome_number again_number) e.outcome;
+      number = c.outcome_number.ensures ∙ ap (outcome_number again_number) e.outcome;
       answer = e.answer;
-      stable = λ z. again_answered _ c.again-outcome.result e.stable (sym c.outcome-number.ensures ∙ z);
+      stable = λ z. again_answered _ c.again_outcome.result e.stable (sym c.outcome_number.ensures ∙ z);
     }

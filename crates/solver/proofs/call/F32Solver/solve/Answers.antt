@@ -6,11 +6,11 @@ use Rattle.solver.proofs.call.F32Solver.solve.Goals as goal
 
 pub returns : goal.returns
 returns c =
-    let e = c.solve-outcome.ensures in
+    let e = c.solve_outcome.ensures in
     record {
-      number = c.outcome-number.ensures ∙ ap (outcome_number solve_number) e.outcome;
+      number = c.outcome_number.ensures ∙ ap (outcome_number solve_number) e.outcome;
       factors = e.factors;
       order = e.order;
       answer = e.answer;
-      stable = λ z. solve_answered _ c.solve-outcome.result e.stable (sym c.outcome-number.ensures ∙ z);
+      stable = λ z. solve_answered _ c.solve_outcome.result e.stable (sym c.outcome_number.ensures ∙ z);
     }

@@ -6,10 +6,10 @@ use Rattle.solver.proofs.call.F64Solver.factor.Goals as goal
 
 pub returns : goal.returns
 returns c =
-    let e = c.factor-outcome.ensures in
+    let e = c.factor_outcome.ensures in
     record {
-      number = c.outcome-number.ensures ∙ ap (outcome_number factor_number) e.outcome;
+      number = c.outcome_number.ensures ∙ ap (outcome_number factor_number) e.outcome;
       factors = e.factors;
       order = e.order;
-      near = λ z. factor-answered _ c.factor-outcome.result e.near (sym c.outcome-number.ensures ∙ z);
+      near = λ z. factor-answered _ c.factor_outcome.result e.near (sym c.outcome_number.ensures ∙ z);
     }

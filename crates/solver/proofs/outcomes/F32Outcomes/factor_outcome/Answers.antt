@@ -8,7 +8,7 @@ use Rattle.solver.proofs.outcomes.F32Outcomes.factor_outcome.Goals as goal
 
 pub returns : goal.returns
 returns c =
-    let e = c.factor-matrix.ensures in
+    let e = c.factor_matrix.ensures in
     let n = c.args.n in
     let a = map (λ v. v) c.args.a.now in
     let lu = c.args.lu.now in
@@ -19,8 +19,8 @@ returns c =
       factors = e.factors;
       order = e.order;
       near =
-          factor-promised binary32 n a (map (λ v. v) lu) o (map (λ v. v) c.factor-matrix.new.lu) c.factor-matrix.new.order c.factor-matrix.result
-          (fit-values binary32 c.args.a.now c.type-inv.a)
+          factor-promised binary32 n a (map (λ v. v) lu) o (map (λ v. v) c.factor_matrix.new.lu) c.factor_matrix.new.order c.factor_matrix.result
+          (fit-values binary32 c.args.a.now c.type_inv.a)
           (e.outcome ∙ ap (λ i. factor_outcome binary32 n a i (length o)) l)
           e.factors
           (e.order ∙ ap (λ i. factor_order binary32 n a i o) l);

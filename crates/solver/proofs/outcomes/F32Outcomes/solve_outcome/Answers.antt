@@ -8,7 +8,7 @@ use Rattle.solver.proofs.outcomes.F32Outcomes.solve_outcome.Goals as goal
 
 pub returns : goal.returns
 returns c =
-    let e = c.solve-with.ensures in
+    let e = c.solve_with.ensures in
     let n = c.args.n in
     let a = map (λ v. v) c.args.a.now in
     let b = map (λ v. v) c.args.b.now in
@@ -23,8 +23,8 @@ returns c =
       order = e.order;
       answer = e.answer;
       stable =
-          solve_promised binary32 n a b (map (λ v. v) lu) o (map (λ v. v) x) (map (λ v. v) c.solve-with.new.lu) c.solve-with.new.order (map (λ v. v) c.solve-with.new.x) c.solve-with.result
-          (fit-values binary32 c.args.a.now c.type-inv.a) (fit-values binary32 c.args.b.now c.type-inv.b)
+          solve_promised binary32 n a b (map (λ v. v) lu) o (map (λ v. v) x) (map (λ v. v) c.solve_with.new.lu) c.solve_with.new.order (map (λ v. v) c.solve_with.new.x) c.solve_with.result
+          (fit-values binary32 c.args.a.now c.type_inv.a) (fit-values binary32 c.args.b.now c.type_inv.b)
           (e.outcome ∙ ap₂ (λ i j. solve_outcome binary32 n a b i (length o) j) l m)
           (e.factors ∙ ap (λ j. solve_lu binary32 n a b (map (λ v. v) lu) (length o) j) m)
           (e.order ∙ ap₂ (λ i j. solve_order binary32 n a b i o j) l m)

@@ -8,7 +8,7 @@ use Rattle.solver.proofs.outcomes.F64Outcomes.again_outcome.Goals as goal
 
 pub returns : goal.returns
 returns c =
-    let e = c.again-with.ensures in
+    let e = c.again_with.ensures in
     let lu = map (λ v. v) c.args.lu.now in
     let o = c.args.order.now in
     let b = map (λ v. v) c.args.b.now in
@@ -17,8 +17,8 @@ returns c =
       outcome = e.outcome;
       answer = e.answer;
       stable =
-          again_promised binary64 c.args.n lu o b (map (λ v. v) x) (map (λ v. v) c.again-with.new.x) c.again-with.result
-          (fit-values binary64 c.args.lu.now c.type-inv.lu) (fit-values binary64 c.args.b.now c.type-inv.b)
+          again_promised binary64 c.args.n lu o b (map (λ v. v) x) (map (λ v. v) c.again_with.new.x) c.again_with.result
+          (fit-values binary64 c.args.lu.now c.type_inv.lu) (fit-values binary64 c.args.b.now c.type_inv.b)
           (e.outcome ∙ ap (again_outcome binary64 c.args.n lu o b) (sym (length-map x (λ v. v))))
           e.answer;
     }
