@@ -7,8 +7,8 @@ pub swap-requires : goal.swap-requires
 swap-requires g c =
     let n = c.args.n in
     record {
-      a-in-bounds = omega (arith, mul-add-lt c.args.i n c.loop-c.c n c.requires.first c.loop-c-test.true);
-      b-in-bounds = omega (arith, mul-add-lt c.args.j n c.loop-c.c n c.requires.second c.loop-c-test.true);
+      a_in_bounds = omega (arith, mul-add-lt c.args.i n c.loop-c.c n c.requires.first c.loop-c-test.true);
+      b_in_bounds = omega (arith, mul-add-lt c.args.j n c.loop-c.c n c.requires.second c.loop-c-test.true);
     }
 
 pub loop-c-preserved : goal.loop-c-preserved

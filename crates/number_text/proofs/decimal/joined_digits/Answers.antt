@@ -8,10 +8,10 @@ use Rattle.number_text.proofs.decimal.joined_digits.Goals as goal
 pub more_digits-requires : goal.more_digits-requires
 more_digits-requires c = let h : length c.args.whole.now ≤ 15 = omega (arith, c.requires) in omega (arith, pow-le-pow_right {n = 10} (omega arith) h)
 
-pub returns-in-default : goal.returns-in-default
-returns-in-default c =
+pub returns-in_default : goal.returns-in_default
+returns-in_default c =
     let w = c.args.whole.now in
-    joined_bad 10 w c.args.fraction.now (given_none (digits_below 10 w) (digits_value 10 w) (sym c.in-default.is ∙ c.more_digits.ensures))
+    joined_bad 10 w c.args.fraction.now (given_none (digits_below 10 w) (digits_value 10 w) (sym c.in_default.is ∙ c.more_digits.ensures))
 
 pub more_digits-requires-2 : goal.more_digits-requires-2
 more_digits-requires-2 c =

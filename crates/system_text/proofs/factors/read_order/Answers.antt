@@ -6,13 +6,13 @@ use Rattle.system_text.proofs.All.{read_word, read_bad, read_all, read_end}
 use Rattle.system_text.proofs.factors.read_order.Goals as goal
 use Rattle.system_text.proofs.factors.read_order.Goals.{else-loop-words-test, then-loop-words-test+in-default}
 
-pub returns-in-default-read_whole : goal.returns-in-default-read_whole
-returns-in-default-read_whole c =
+pub returns-in_default-read_whole : goal.returns-in_default-read_whole
+returns-in_default-read_whole c =
     let l = c.loop-words in
     record {
       places = λ _. ap formed (
           read_bad place c.args.most (left c.args.words.now) (left l.words) (left c.next_word.new.self) (vec_items l.order) (vec_len l.order) c.in-Some.word.now
-          l.invariant (omega arith) c.in-Some.ensures (sym c.in-default-read_whole.ensures));
+          l.invariant (omega arith) c.in-Some.ensures (sym c.in_default-read_whole.ensures));
       rest = tt;
     }
 
@@ -32,7 +32,7 @@ returns c =
           let p = read_all place c.args.most start (left l.words) (vec_items l.order) (vec_len l.order) l.invariant (omega (arith, w.loop-words-test.false)) in
           record { places = ap formed p.0; rest = ap left w.words-is ∙ p.1 }
       | then-loop-words-test+in-default w ↦
-          let none = w.in-default.ensures in
+          let none = w.in_default.ensures in
           let p = read_end place c.args.most start (left l.words) (vec_items l.order) (vec_len l.order) l.invariant none.0 in
           record { places = ap formed p.0; rest = ap left w.words-is ∙ none.1 ∙ sym none.0 ∙ p.1 }
     ]

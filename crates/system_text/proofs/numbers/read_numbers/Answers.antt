@@ -44,7 +44,7 @@ returns g c =
           let p = read_all one c.args.most start (left l.words) done (vec_len l.numbers) l.invariant (omega (arith, w.loop-words-test.false)) in
           record { numbers = ap formed p.0; rest = ap left w.words-is ∙ p.1 }
       | then-loop-words-test+in-default w ↦
-          let none = w.in-default.ensures in
+          let none = w.in_default.ensures in
           let p = read_end one c.args.most start (left l.words) done (vec_len l.numbers) l.invariant none.0 in
           record { numbers = ap formed p.0; rest = ap left w.words-is ∙ none.1 ∙ sym none.0 ∙ p.1 }
     ]

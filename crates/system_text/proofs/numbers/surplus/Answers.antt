@@ -27,5 +27,5 @@ loop-word-preserved g c =
 pub returns : goal.returns
 returns g c =
     let one = number_of g.R.Real.format in
-    let none = c.in-default.ensures in
+    let none = c.in_default.ensures in
     sym (ap formed (sym c.loop-word.invariant ∙ ap (λ ws. any_more c.loop-word.any (all_of one ws)) none.0 ∙ any_end one c.loop-word.any))

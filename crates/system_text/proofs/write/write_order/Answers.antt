@@ -4,8 +4,8 @@ use Rattle.text_model.specs.Refusals.{decimal}
 use Rattle.system_text.proofs.Lines.{tail, words-next, line-none, line_end}
 use Rattle.system_text.proofs.write.write_order.Goals as goal
 
-pub returns-in-default : goal.returns-in-default
-returns-in-default c =
+pub returns-in_default : goal.returns-in_default
+returns-in_default c =
     line-none decimal c.args.order.now (vec_items c.args.out.now) (vec_items c.push.new.self) (omega (arith, ltb-true)) c.in_ok-push.ensures.items
 
 pub loop-row-preserved : goal.loop-row-preserved

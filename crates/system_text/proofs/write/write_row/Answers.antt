@@ -5,8 +5,8 @@ use Rattle.text_model.specs.Lines.{line}
 use Rattle.system_text.proofs.Lines.{number_word, words-next, line-none, line_end}
 use Rattle.system_text.proofs.write.write_row.Goals as goal
 
-pub returns-in-default : goal.returns-in-default
-returns-in-default g c =
+pub returns-in_default : goal.returns-in_default
+returns-in_default g c =
     let v = g.R.Real.val in
     let a = vec_items c.args.out.now in
     line-none (number_word v) c.args.row.now a (vec_items c.push.new.self) (omega (arith, ltb-true)) c.in_ok-push.ensures.items

@@ -22,14 +22,14 @@ slice_bounds-subtract_products-end g c =
     let start : p * n + p + 1 ≤ p * n + n = omega arith in
     search rules
 
-pub returns-in-default : goal.returns-in-default
-returns-in-default g c =
+pub returns-in_default : goal.returns-in_default
+returns-in_default g c =
     let m = g.R.Real in
     let p = c.loop-i.i - 1 in
     let next : p + 1 ≡ c.loop-i.i = omega arith in
     let h : p < c.args.n = omega arith in
     record {
-      range = turn_fail m.val m.format c.args.n c.args.lu.now c.args.work.now c.loop-i.i p c.loop-i.work c.index-work-i.result next h c.requires.matrix c.requires.row c.loop-i.invariant c.index-work-i.is c.in-default.ensures;
+      range = turn_fail m.val m.format c.args.n c.args.lu.now c.args.work.now c.loop-i.i p c.loop-i.work c.index-work-i.result next h c.requires.matrix c.requires.row c.loop-i.invariant c.index-work-i.is c.in_default.ensures;
       entries = λ e. absurd (false≢true e);
     }
 
@@ -43,15 +43,15 @@ bounds-lu-i g c =
     let h : c.loop-i.i - 1 < c.args.n = omega arith in
     omega (arith, entry-within c.args.n (c.loop-i.i - 1) (c.loop-i.i - 1) h h)
 
-pub returns-in-default-quotient : goal.returns-in-default-quotient
-returns-in-default-quotient g c =
+pub returns-in_default-quotient : goal.returns-in_default-quotient
+returns-in_default-quotient g c =
     let m = g.R.Real in
     let p = c.loop-i.i - 1 in
     let next : p + 1 ≡ c.loop-i.i = omega arith in
     let h : p < c.args.n = omega arith in
     let e = c.in-Some.ensures in
     record {
-      range = turn_quotient_fail m.val m.format c.args.n c.args.lu.now c.args.work.now c.loop-i.i p c.loop-i.work c.index-work-i.result next h c.requires.matrix c.requires.row c.loop-i.invariant c.index-work-i.is c.in-Some.rest c.index-lu-i.result e.0 e.1 c.index-lu-i.is c.in-default-quotient.ensures;
+      range = turn_quotient_fail m.val m.format c.args.n c.args.lu.now c.args.work.now c.loop-i.i p c.loop-i.work c.index-work-i.result next h c.requires.matrix c.requires.row c.loop-i.invariant c.index-work-i.is c.in-Some.rest c.index-lu-i.result e.0 e.1 c.index-lu-i.is c.in_default-quotient.ensures;
       entries = λ e. absurd (false≢true e);
     }
 

@@ -9,10 +9,10 @@ loop-i-init c = written_none c.args.places.now
 pub loop-i-preserved : goal.loop-i-preserved
 loop-i-preserved c = let h : c.loop-i.i < length c.loop-i.places = omega arith in written_next c.loop-i.places c.loop-i.i h c.loop-i.invariant
 
-pub invariant-of-result : goal.invariant-of-result
-invariant-of-result c =
+pub invariant_of-result : goal.invariant_of-result
+invariant_of-result c =
     let places = c.loop-i.places in
-    (up_to-below places (written_all places c.loop-i.i (omega arith) (omega arith) c.loop-i.invariant), tt)
+    record { below = up_to-below places (written_all places c.loop-i.i (omega arith) (omega arith) c.loop-i.invariant) }
 
 pub returns : goal.returns
 returns c =

@@ -3,8 +3,8 @@ use lib.Ieee.{binary64}
 use Rattle.number_text.proofs.Patterns.{units-low, units-high, finite_no_nan}
 use Rattle.number_text.proofs.binary64.F64Digits.to_units.Goals as goal
 
-pub float-to_bits-bits : goal.float-to_bits-bits
-float-to_bits-bits c = finite_no_nan c.args.self c.requires
+pub float_to_bits-bits : goal.float_to_bits-bits
+float_to_bits-bits c = finite_no_nan c.args.self c.requires
 
 pub returns-then-field-eq0 : goal.returns-then-field-eq0
 returns-then-field-eq0 c = units-low binary64 c.args.self (subst T (sym c.well_formed.0.1) tt) c.if-field-eq0.true
