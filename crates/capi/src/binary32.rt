@@ -18,11 +18,7 @@ pub extern "C" fn nardlintel_solve_f32(
 ) -> u32
     ensures { SolveCall binary32 n a.now b.now lu.old order.old x.old column.old result lu.new order.new x.new column.new }
 {
-    report(
-        <f32 as Outcomes>::solve_outcome(n, a, b, lu, order, x),
-        n,
-        column,
-    )
+    report(f32::solve_outcome(n, a, b, lu, order, x), n, column)
 }
 
 // Factors and order of the matrix a.
@@ -36,11 +32,7 @@ pub extern "C" fn nardlintel_factor_f32(
 ) -> u32
     ensures { FactorCall binary32 n a.now lu.old order.old column.old result lu.new order.new column.new }
 {
-    report(
-        <f32 as Outcomes>::factor_outcome(n, a, lu, order),
-        n,
-        column,
-    )
+    report(f32::factor_outcome(n, a, lu, order), n, column)
 }
 
 // The answer for another right side, with factors and an order that are there already.
@@ -55,11 +47,7 @@ pub extern "C" fn nardlintel_again_f32(
 ) -> u32
     ensures { AgainCall binary32 n lu.now order.now b.now x.old column.old result x.new column.new }
 {
-    report(
-        <f32 as Outcomes>::again_outcome(n, lu, order, b, x),
-        n,
-        column,
-    )
+    report(f32::again_outcome(n, lu, order, b, x), n, column)
 }
 
 // The product of the matrix a and the vector x.

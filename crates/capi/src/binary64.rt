@@ -18,11 +18,7 @@ pub extern "C" fn nardlintel_solve_f64(
 ) -> u32
     ensures { SolveCall binary64 n a.now b.now lu.old order.old x.old column.old result lu.new order.new x.new column.new }
 {
-    report(
-        <f64 as Outcomes>::solve_outcome(n, a, b, lu, order, x),
-        n,
-        column,
-    )
+    report(f64::solve_outcome(n, a, b, lu, order, x), n, column)
 }
 
 // Factors and order of the matrix a.
@@ -36,11 +32,7 @@ pub extern "C" fn nardlintel_factor_f64(
 ) -> u32
     ensures { FactorCall binary64 n a.now lu.old order.old column.old result lu.new order.new column.new }
 {
-    report(
-        <f64 as Outcomes>::factor_outcome(n, a, lu, order),
-        n,
-        column,
-    )
+    report(f64::factor_outcome(n, a, lu, order), n, column)
 }
 
 // The answer for another right side, with factors and an order that are there already.
@@ -55,11 +47,7 @@ pub extern "C" fn nardlintel_again_f64(
 ) -> u32
     ensures { AgainCall binary64 n lu.now order.now b.now x.old column.old result x.new column.new }
 {
-    report(
-        <f64 as Outcomes>::again_outcome(n, lu, order, b, x),
-        n,
-        column,
-    )
+    report(f64::again_outcome(n, lu, order, b, x), n, column)
 }
 
 // The product of the matrix a and the vector x.

@@ -6,7 +6,7 @@ use lib.Ieee.{Format, binary32, binary64, prec, emax, low, odd, round, fits}
 use lib.Ieee.Fits.{two, two-le_pos, round-fits}
 use lib.Ieee.Scale.{finite, grid}
 use Rattle.std.specs.Str.Parse.{starts_with_minus}
-use Rattle.std.proofs.lemmas.List.Elements.{All-get_or}
+use Rattle.std.proofs.lemmas.List.Elements.{All-nil, All-cons, All-get_or}
 use Rattle.std.proofs.lemmas.Bool.{cond_both}
 use Rattle.exact.proofs.Digits.{rounded-le}
 use Rattle.exact.proofs.Value.{round-finite}
@@ -85,11 +85,11 @@ pub record Values (f : Format) (ws : List Word) (xs : Row) : Type 0 where
 
 pub given_numbers : (f : Format) (ws : List Word) → Given (numbers_of f ws) (Values f ws)
 unfolding all_of
-given_numbers f [] = record { each = tt; count = omega arith }
+given_numbers f [] = record { each = All-nil (FiniteValue f); count = omega arith }
 given_numbers f (w ∷ ws) =
     given_then (number_of f w) (λ x. and_then (numbers_of f ws) (λ xs. Some (x ∷ xs))) (FiniteValue f) (Values f (w ∷ ws)) (given_number f w)
     (λ x h. given_then (numbers_of f ws) (λ xs. Some (x ∷ xs)) (Values f ws) (Values f (w ∷ ws)) (given_numbers f ws)
-    (λ xs v. record { each = (h, v.each); count = omega (arith, v.count) }))
+    (λ xs v. record { each = All-cons (FiniteValue f) x xs h v.each; count = omega (arith, v.count) }))
 
 -- ---- the same as tests of all entries
 module _ (f : Format) (xs : Row) (each : All (FiniteValue f) xs) where

@@ -7,7 +7,7 @@ use lib.Ieee.Scale.{finite}
 use Rattle.std.specs.Str.Parse.{digits_value}
 use Rattle.std.specs.Fmt.{digit_glyph, digits_onto, digits, signed_decimal}
 use Rattle.std.proofs.lemmas.Fmt.{decimal_is_IsNumeral}
-use Rattle.std.proofs.lemmas.List.Elements.{All-append, All-from_get_or, All-map, All-weaker}
+use Rattle.std.proofs.lemmas.List.Elements.{All-nil, All-cons, All-head, All-tail, All-append, All-from_get_or, All-map, All-weaker}
 use Rattle.std.proofs.lemmas.Bool.{cond_both, lt-ltb, ne_eqb}
 use Rattle.element.specs.Matrix.{Row, zero_float, at, all_finite}
 use Rattle.element.specs.Multiply.{size_taken}
@@ -31,29 +31,36 @@ large_solid b h =
 glyph_solid : (d : ℕ) → separator (digit_glyph false d) ≡ false
 glyph_solid d = cond_both (ltb d 10) (48 + d) (87 + d) (λ b. separator b ≡ false) (λ _. large_solid (48 + d) (omega arith)) (λ _. large_solid (87 + d) (omega arith))
 
+solid_more : (b : ℕ) (w : List ℕ) → separator b ≡ false → Solid w → Solid (b ∷ w)
+solid_more = All-cons (λ b. separator b ≡ false)
+
 spelled_solid : (k base n : ℕ) (acc : List ℕ) → Solid acc → Solid (digits_onto k base false n acc)
 spelled_solid zero base n acc h = h
 spelled_solid (suc k) base n acc h =
-    let more : Solid (digit_glyph false (n % base) ∷ acc) = (glyph_solid (n % base), h) in
+    let more : Solid (digit_glyph false (n % base) ∷ acc) = solid_more (digit_glyph false (n % base)) acc (glyph_solid (n % base)) h in
     cond_both (eqb (n / base) 0) (digit_glyph false (n % base) ∷ acc) (digits_onto k base false (n / base) (digit_glyph false (n % base) ∷ acc)) Solid
     (λ _. more) (λ _. spelled_solid k base (n / base) (digit_glyph false (n % base) ∷ acc) more)
 
 digits-solid : (base n : ℕ) → Solid (digits base false n)
 unfolding digits
-digits-solid base n = spelled_solid 64 base n [] tt
+digits-solid base n = spelled_solid 64 base n [] (All-nil (λ b. separator b ≡ false))
 
 -- ---- the text of a finite float
 signed-solid : (e : ℤ) → Solid (signed_decimal e)
 signed-solid (pos n) = digits-solid 10 n
-signed-solid (negsuc n) = (refl, digits-solid 10 (suc n))
+signed-solid (negsuc n) = solid_more 45 (digits 10 false (suc n)) refl (digits-solid 10 (suc n))
 
 number-solid : (m : ℕ) (e : ℤ) → Solid (codes "0x" ++ (digits 16 false m ++ (codes "p" ++ signed_decimal e)))
-number-solid m e = (refl, (refl, All-append (λ b. separator b ≡ false) (digits 16 false m) (codes "p" ++ signed_decimal e) (digits-solid 16 m) (refl, signed-solid e)))
+number-solid m e =
+    let rest = digits 16 false m ++ (codes "p" ++ signed_decimal e) in
+    solid_more 48 (120 ∷ rest) refl
+    (solid_more 120 rest refl
+    (All-append (λ b. separator b ≡ false) (digits 16 false m) (codes "p" ++ signed_decimal e) (digits-solid 16 m) (solid_more 112 (signed_decimal e) refl (signed-solid e))))
 
 pub printed_word : (x : Float) → T (finite x) → IsWord (printed x)
 printed_word nan t = absurd t
 printed_word (inf s) t = absurd t
-printed_word (fin true m e) t = record { some = omega arith; solid = (refl, number-solid m e) }
+printed_word (fin true m e) t = record { some = omega arith; solid = solid_more 45 (codes "0x" ++ (digits 16 false m ++ (codes "p" ++ signed_decimal e))) refl (number-solid m e) }
 printed_word (fin false m e) t = record { some = omega arith; solid = number-solid m e }
 
 pub printed-words : (xs : Row) → T (all_finite xs) → All IsWord (map printed xs)
@@ -64,8 +71,8 @@ read_all : {A : Type 0} (one : Word → Option A) (shown : A → Word) (P : A �
 unfolding all_of
 read_all one shown P each [] h = refl
 read_all one shown P each (x ∷ xs) h =
-    ap (λ o. and_then o (λ y. and_then (all_of one (map shown xs)) (λ ys. Some (y ∷ ys)))) (each x h.0)
-    ∙ ap (λ o. and_then o (λ ys. Some (x ∷ ys))) (read_all one shown P each xs h.1)
+    ap (λ o. and_then o (λ y. and_then (all_of one (map shown xs)) (λ ys. Some (y ∷ ys)))) (each x (All-head P x xs h))
+    ∙ ap (λ o. and_then o (λ ys. Some (x ∷ ys))) (read_all one shown P each xs (All-tail P x xs h))
 
 pub printed_numbers : (f : Format) (xs : Row) → T (all_finite xs) → T (all_fit f xs) → numbers_of f (map printed xs) ≡ Some xs
 printed_numbers f xs t h =

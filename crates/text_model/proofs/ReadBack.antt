@@ -1,7 +1,7 @@
 -- Factors are read back as they were printed, whatever text follows them.
-use Rattle.std.proofs.Common.{◌≡◌, ℕ, ◌*◌, ◌^◌, ◌<◌, ◌≤◌, cond, ◌&&◌, leb, List, [], ◌∷◌, ◌++◌, map, length, get_or, take, drop, Some, Ok, Err, codes, All, refl, ap, ◌∙◌, ap₂, append_assoc, arith, leb→le}
+use Rattle.std.proofs.Common.{false, ◌≡◌, ℕ, ◌*◌, ◌^◌, ◌<◌, ◌≤◌, cond, ◌&&◌, leb, List, [], ◌∷◌, ◌++◌, map, length, get_or, take, drop, Some, Ok, Err, codes, All, refl, ap, ◌∙◌, ap₂, append_assoc, arith, leb→le}
 use lib.Ieee.Fits.{and_r}
-use Rattle.std.proofs.lemmas.List.Elements.{All-from_get_or}
+use Rattle.std.proofs.lemmas.List.Elements.{All-from_recursion, All-from_get_or}
 use Rattle.std.proofs.lemmas.List.{length-map, take_at, drop_at}
 use Rattle.std.proofs.lemmas.Bool.{eq-eqb, le-ltb}
 use Rattle.element.specs.Matrix.{Row, matrix}
@@ -11,7 +11,7 @@ use Rattle.number_text.specs.Printed.{printed}
 use Rattle.text_model.specs.declared.Precision.{Precision}
 use Rattle.text_model.specs.declared.Precision.TheVariants.{Double, Single}
 use Rattle.text_model.specs.declared.TextRefusal.TheVariants.{Size, Count}
-use Rattle.text_model.specs.Words.{Word, words_of}
+use Rattle.text_model.specs.Words.{Word, separator, words_of}
 use Rattle.text_model.specs.Refusals.{decimal}
 use Rattle.text_model.specs.Systems.{longest, format, sized, named, head_of, text_head, numbers_of}
 use Rattle.text_model.specs.Factors.{Factored, places_of, complete, factors_after}
@@ -22,8 +22,8 @@ use Rattle.text_model.proofs.Printed.{printed-words, printed_numbers, decimal_wo
 
 -- ---- the head
 name_word : (p : Precision) → IsWord (factors_word p)
-name_word Double = record { some = omega arith; solid = (refl, (refl, (refl, (refl, (refl, (refl, (refl, tt))))))) }
-name_word Single = record { some = omega arith; solid = (refl, (refl, (refl, (refl, (refl, (refl, (refl, (refl, (refl, tt))))))))) }
+name_word Double = record { some = omega arith; solid = All-from_recursion (λ b. separator b ≡ false) (codes "factors") (refl, (refl, (refl, (refl, (refl, (refl, (refl, tt))))))) }
+name_word Single = record { some = omega arith; solid = All-from_recursion (λ b. separator b ≡ false) (codes "factors32") (refl, (refl, (refl, (refl, (refl, (refl, (refl, (refl, (refl, tt))))))))) }
 
 named_by : (p : Precision) (ws : List Word) → head_of (codes "factors") (factors_word p ∷ ws) ≡ named (Some p) ws
 named_by Double ws = refl
@@ -50,7 +50,7 @@ module _ (p : Precision) (n : ℕ) (order : List ℕ) (lu : Row) (r : List ℕ) 
       let head = factors_word p ∷ decimal n ∷ [] in
       let rows = row_lines (matrix n lu) in
       ap words_of (append_assoc (line head) (line (map decimal order) ++ rows) r)
-      ∙ words-line head ((line (map decimal order) ++ rows) ++ r) (name_word p, (decimal_word n size_small, tt))
+      ∙ words-line head ((line (map decimal order) ++ rows) ++ r) (All-from_recursion IsWord head (name_word p, (decimal_word n size_small, tt)))
       ∙ ap (λ ws. head ++ ws)
       (ap words_of (append_assoc (line (map decimal order)) rows r) ∙ words-line (map decimal order) (rows ++ r) (decimal-words order small) ∙ ap (λ ws. map decimal order ++ ws) words-rows)
 

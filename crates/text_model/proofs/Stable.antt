@@ -3,6 +3,7 @@ use Rattle.std.proofs.Common.{◌≡◌, ℕ, ◌+◌, ◌*◌, Bool, true, fals
 use lib.Ieee.{Format, div, fits}
 use lib.Ieee.Fits.{and_i, div-fits}
 use Rattle.element.specs.declared.refusal.InputRefusal.{InputRefusal}
+use Rattle.std.proofs.lemmas.List.Elements.{All-from_recursion}
 use Rattle.element.specs.Matrix.{Row, Matrix, at, matrix, all_finite}
 use Rattle.element.specs.Products.{subtract_products}
 use Rattle.element.specs.Promises.{all_fit}
@@ -19,7 +20,7 @@ use Rattle.model.proofs.Digits.{solve_answer}
 use Rattle.model.proofs.Theorems.{solve_theorem}
 use Rattle.number_text.specs.Printed.{printed}
 use Rattle.text_model.specs.declared.TextRefusal.{TextRefusal}
-use Rattle.text_model.specs.Words.{words_of}
+use Rattle.text_model.specs.Words.{separator, words_of}
 use Rattle.text_model.specs.Refusals.{solve_refusal, no_answer}
 use Rattle.text_model.specs.Systems.{System, format, system_of, matrix_in, right_side_in}
 use Rattle.text_model.specs.Lines.{number_lines, answer}
@@ -82,7 +83,7 @@ module _ (s : System) (given : Taken s) (x : Row) (is : solved s ≡ Ok x) where
 
 -- ---- the printed words
 answer_word : IsWord (codes "answer")
-answer_word = record { some = omega arith; solid = (refl, (refl, (refl, (refl, (refl, (refl, tt)))))) }
+answer_word = record { some = omega arith; solid = All-from_recursion (λ b. separator b ≡ false) (codes "answer") (refl, (refl, (refl, (refl, (refl, (refl, tt)))))) }
 
 words-answer : (x : Row) → T (all_finite x) → words_of (answer x) ≡ codes "answer" ∷ map printed x
 words-answer x t = words_word (codes "answer") 10 (number_lines x) answer_word refl ∙ ap (λ ws. codes "answer" ∷ ws) (words-number_lines x (printed-words x t))

@@ -2,11 +2,11 @@
 use Rattle.std.proofs.Common.{◌≡◌, ℕ, zero, suc, ◌+◌, ◌*◌, cond, T, eqb, ltb, List, [], ◌∷◌, length, take, drop, IfOk, Some, None, Ok, Err, codes, All, Option, Result, sym, refl, ap, ◌∙◌, subst, arith}
 use lib.Ieee.{Format}
 use Rattle.std.specs.Str.Parse.{digits_value}
-use Rattle.std.proofs.lemmas.List.Elements.{All-get_or, All-append, All-take, All-drop}
+use Rattle.std.proofs.lemmas.List.Elements.{All-nil, All-cons, All-get_or, All-append, All-take, All-drop}
 use Rattle.std.proofs.lemmas.List.{length-append, length-drop, length-take-le}
 use Rattle.std.proofs.lemmas.Result.{IfOk-at_ok}
 use Rattle.std.proofs.lemmas.Bool.{cond_both, eqb-true}
-use Rattle.element.specs.Matrix.{Row, zero_float}
+use Rattle.element.specs.Matrix.{Row, zero_float, at}
 use Rattle.element.specs.Multiply.{size_taken}
 use Rattle.model.specs.Promises.{Square, RightSide}
 use Rattle.model.proofs.Slice.{FiniteValue}
@@ -36,16 +36,17 @@ length-right_side (suc r) n xs = ap suc (length-right_side r n (drop (n + 1) xs)
 module _ (f : Format) where
   all-coefficients : (r n : ℕ) (xs : Row) → All (FiniteValue f) xs → All (FiniteValue f) (coefficients r n xs)
   unfolding coefficients
-  all-coefficients zero n xs h = tt
+  all-coefficients zero n xs h = All-nil (FiniteValue f)
   all-coefficients (suc r) n xs h =
       All-append (FiniteValue f) (take n xs) (coefficients r n (drop (n + 1) xs)) (All-take (FiniteValue f) n xs h)
       (all-coefficients r n (drop (n + 1) xs) (All-drop (FiniteValue f) (n + 1) xs h))
 
   all-right_side : (r n : ℕ) (xs : Row) → length xs ≡ r * (n + 1) → All (FiniteValue f) xs → All (FiniteValue f) (right_side r n xs)
   unfolding right_side
-  all-right_side zero n xs e h = tt
+  all-right_side zero n xs e h = All-nil (FiniteValue f)
   all-right_side (suc r) n xs e h =
-      (All-get_or (FiniteValue f) xs n zero_float (omega arith) h, all-right_side r n (drop (n + 1) xs) (left r n xs e) (All-drop (FiniteValue f) (n + 1) xs h))
+      All-cons (FiniteValue f) (at xs n) (right_side r n (drop (n + 1) xs)) (All-get_or (FiniteValue f) xs n zero_float (omega arith) h)
+      (all-right_side r n (drop (n + 1) xs) (left r n xs e) (All-drop (FiniteValue f) (n + 1) xs h))
 
 -- ---- a system whose entries are as many as its size asks
 pub record Taken (s : System) : Type 0 where
