@@ -5,7 +5,7 @@ use Rattle.exact.specs.Value.{unit, value}
 use Rattle.analysis.specs.Factors.{weight}
 use Rattle.analysis.proofs.Elimination.{Swapped, eliminated-swap}
 use Rattle.analysis.proofs.Factors.{factors-near}
-use Rattle.element.specs.Matrix.{Row, Matrix, at, matrix}
+use Rattle.element.specs.Matrix.{Row, Matrix, matrix}
 use Rattle.model.specs.Factor.{factored}
 use Rattle.model.specs.Calls.{flat}
 use Rattle.model.specs.Promises.{entry, place, factor_product, PivotsBounded, Square, FactorTheorem}

@@ -2,7 +2,6 @@
 use Rattle.std.proofs.Common.{◌≡◌, ℕ, zero, suc, ◌+◌, ◌-◌, ◌*◌, ◌^◌, ◌<◌, ◌≤◌, T, [], ◌∷◌, ◌++◌, length, take, ℤ, pos, ◌-ℤ◌, ◌*ℤ◌, nat_abs, sym, refl, ap, ◌∙◌, add-zero, zero-add, arith}
 use lib.Ieee.{Float, Format, prec}
 use lib.Ieee.Fits.{and_l, and_r}
-use lib.Ieee.Scale.{finite}
 use Rattle.std.proofs.lemmas.List.{get_or-take, get_or_push, length_push, length-take-le, take_all, take-take, take_at}
 use Rattle.exact.specs.Sum.{sumℕ, sumℤ}
 use Rattle.exact.specs.Value.{unit, value}

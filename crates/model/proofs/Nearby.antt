@@ -2,7 +2,6 @@
 use Rattle.std.proofs.Common.{◌≡◌, ℕ, ◌-◌, ◌*◌, ◌^◌, ◌<◌, ◌≤◌, T, List, [], length, ℤ, pos, ◌-ℤ◌, ◌*ℤ◌, nat_abs, ◌∙◌, mul-one, arith, pow_pos}
 use lib.Ieee.{Format, prec}
 use lib.Ieee.Fits.{and_l, and_r}
-use lib.Ieee.Scale.{finite}
 use Rattle.std.proofs.lemmas.List.{get_or-map, length-map}
 use Rattle.exact.specs.Sum.{sumℕ, sumℤ}
 use Rattle.exact.specs.Value.{unit, value}

@@ -14,7 +14,6 @@ use Rattle.element.proofs.Outcome.{err_not_ok}
 use Rattle.model.specs.declared.FactorRefusal.{FactorRefusal}
 use Rattle.model.specs.declared.FactorRefusal.TheVariants as factoring
 use Rattle.model.specs.declared.AgainRefusal.{AgainRefusal}
-use Rattle.model.specs.declared.AgainRefusal.TheVariants as again
 use Rattle.model.specs.Refusals.{solve_number, again_number}
 use Rattle.model.specs.Factor.{Factoring, factored}
 use Rattle.model.specs.Solve.{solution, solution_in_range}

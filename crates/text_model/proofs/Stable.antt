@@ -9,9 +9,7 @@ use Rattle.element.specs.Products.{subtract_products}
 use Rattle.element.specs.Promises.{all_fit}
 use Rattle.element.proofs.Outcome.{err_not_ok}
 use Rattle.model.specs.declared.FactorRefusal.{FactorRefusal}
-use Rattle.model.specs.declared.FactorRefusal.TheVariants as factoring
 use Rattle.model.specs.declared.SolveRefusal.{SolveRefusal}
-use Rattle.model.specs.declared.SolveRefusal.TheVariants as solving
 use Rattle.model.specs.Factor.{Factoring, factored}
 use Rattle.model.specs.Solve.{forward, backward, permuted, solution, solution_in_range}
 use Rattle.model.specs.Calls.{flat, solve_inputs, solve_outcome}
