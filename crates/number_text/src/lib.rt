@@ -5,7 +5,7 @@ mod binary32;
 mod binary64;
 mod decimal;
 mod digits;
-mod exact;
+mod exact_word;
 mod numeral;
 mod print;
 mod promises;

@@ -2,7 +2,7 @@
 ghost use Rattle.std.specs.Prelude.{◌≡◌, ◌<◌, ◌≤◌, false, T, ◌++◌, drop, OnOk};
 ghost use Rattle.std.specs.Float.Ieee.{minus};
 ghost use Rattle.std.specs.Float.Ieee.Scale.{finite};
-ghost use Rattle.std.specs.Fmt.{digit_glyph as glyphOf, digits as digitsOf, sign_text as sign_of, signed_decimal};
+ghost use Rattle.std.specs.Fmt.{digit_glyph as glyph_of, digits as digits_of, sign_text as sign_of, signed_decimal};
 ghost use Rattle.number_text.specs.Printed.{exact_text, printed, PrintedTo};
 
 use crate::digits::Digits;
@@ -12,7 +12,7 @@ use std::alloc::AllocError;
 // The lower-case digit of d.
 fn glyph(d: u64) -> u8
     requires { d < 16 }
-    ensures { result ≡ glyphOf false d }
+    ensures { result ≡ glyph_of false d }
 {
     if d < 10 {
         b'0' + d as u8
@@ -25,7 +25,7 @@ fn glyph(d: u64) -> u8
 fn spell(n: u64, base: u64, buffer: &mut [u8; 64]) -> usize
     requires { (2 ≤ base) × (base ≤ 16) }
     ensures bound { result ≤ 64 }
-    ensures value { drop result buffer.new ≡ digitsOf base false n }
+    ensures value { drop result buffer.new ≡ digits_of base false n }
 {
     let mut i = 64;
     let mut rest = n;
@@ -42,7 +42,7 @@ fn spell(n: u64, base: u64, buffer: &mut [u8; 64]) -> usize
 
 fn push_digits(base: u64, n: u64, out: &mut Vec<u8>) -> Result<(), AllocError>
     requires { (2 ≤ base) × (base ≤ 16) }
-    ensures { OnOk result (out.new.items ≡ out.old.items ++ digitsOf base false n) }
+    ensures { OnOk result (out.new.items ≡ out.old.items ++ digits_of base false n) }
 {
     let mut buffer = [0u8; 64];
     let start = spell(n, base, &mut buffer);
@@ -51,7 +51,7 @@ fn push_digits(base: u64, n: u64, out: &mut Vec<u8>) -> Result<(), AllocError>
 
 // Appends a whole number in decimal digits.
 pub fn write_decimal(n: u64, out: &mut Vec<u8>) -> Result<(), AllocError>
-    ensures { OnOk result (out.new.items ≡ out.old.items ++ digitsOf 10 false n) }
+    ensures { OnOk result (out.new.items ≡ out.old.items ++ digits_of 10 false n) }
 {
     push_digits(10, n, out)
 }

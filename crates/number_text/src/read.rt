@@ -4,7 +4,7 @@ ghost use Rattle.number_text.specs.Number.{value_read, number_of, unsigned_numbe
 
 use crate::decimal::read_decimal;
 use crate::digits::Digits;
-use crate::exact::read_exact;
+use crate::exact_word::read_exact;
 use crate::numeral::{is_negative, without_sign};
 use crate::refusal::NumberRefusal;
 

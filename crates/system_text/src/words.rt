@@ -1,7 +1,7 @@
 // The reader of a text: it holds a reference to what is left of it, and gives each word as a part of that.
 ghost use Rattle.std.specs.Prelude.{◌≡◌, ◌≤◌, [], ◌∷◌, length, MatchOption};
 ghost use Rattle.text_model.specs.Words.{separator as separates, words_of};
-ghost use Rattle.system_text.specs.Left.{left, leading as leadingBytes};
+ghost use Rattle.system_text.specs.Left.{left, leading as leading_bytes};
 
 // Space, tab, carriage return and line feed.
 fn is_separator(byte: u8) -> bool
@@ -12,7 +12,7 @@ fn is_separator(byte: u8) -> bool
 
 // How many bytes the text begins with that are separators, or that are not.
 fn leading(separators: bool, text: &[u8]) -> usize
-    ensures value { result ≡ leadingBytes separators text.now }
+    ensures value { result ≡ leading_bytes separators text.now }
     ensures bound { result ≤ length text.now }
 {
     for (i, byte) in text.iter().enumerate() {

@@ -2,7 +2,7 @@
 ghost use Rattle.std.specs.Prelude.{◌≡◌, ◌*◌, ◌≤◌, ◌++◌, map, length, OnOk};
 ghost use Rattle.element.specs.Matrix.{matrix};
 ghost use Rattle.number_text.specs.Printed.{printed};
-ghost use Rattle.text_model.specs.Refusals.{decimal, factoring_detail, detail as detailOf, no_answer};
+ghost use Rattle.text_model.specs.Refusals.{decimal, factoring_detail, detail as detail_of, no_answer};
 ghost use Rattle.text_model.specs.Lines.{number_lines, answer, line, row_lines, factors_word, factors_text};
 
 use element::{Numbered, Real, matrix_row};
@@ -137,7 +137,7 @@ fn write_factoring(refusal: FactorRefusal, out: &mut Vec<u8>) -> Result<(), Allo
 }
 
 fn write_detail(refusal: TextRefusal, out: &mut Vec<u8>) -> Result<(), AllocError>
-    ensures { OnOk result (out.new.items ≡ out.old.items ++ detailOf refusal) }
+    ensures { OnOk result (out.new.items ≡ out.old.items ++ detail_of refusal) }
 {
     match refusal {
         TextRefusal::Size => out.extend_from_slice(b"1"),

@@ -4,7 +4,7 @@ use Rattle.system_text.specs.Left.{left}
 use Rattle.system_text.specs.Read.{formed}
 use Rattle.system_text.proofs.All.{read_word, read_bad, read_all, read_end}
 use Rattle.system_text.proofs.factors.read_order.Goals as goal
-use Rattle.system_text.proofs.factors.read_order.Goals.{else-loop-words-test, then-loop-words-test+in-default}
+use Rattle.system_text.proofs.factors.read_order.Goals.{else-loop-words-test, then-loop-words-test+in_default}
 
 pub returns-in_default-read_whole : goal.returns-in_default-read_whole
 returns-in_default-read_whole c =
@@ -31,7 +31,7 @@ returns c =
       | else-loop-words-test w ↦
           let p = read_all place c.args.most start (left l.words) (vec_items l.order) (vec_len l.order) l.invariant (omega (arith, w.loop-words-test.false)) in
           record { places = ap formed p.0; rest = ap left w.words-is ∙ p.1 }
-      | then-loop-words-test+in-default w ↦
+      | then-loop-words-test+in_default w ↦
           let none = w.in_default.ensures in
           let p = read_end place c.args.most start (left l.words) (vec_items l.order) (vec_len l.order) l.invariant none.0 in
           record { places = ap formed p.0; rest = ap left w.words-is ∙ none.1 ∙ sym none.0 ∙ p.1 }

@@ -8,7 +8,7 @@ use Rattle.system_text.specs.Read.{formed}
 use Rattle.system_text.proofs.All.{read_word, read_bad, read_all, read_end}
 use Rattle.system_text.proofs.Refused.{refused}
 use Rattle.system_text.proofs.numbers.read_numbers.Goals as goal
-use Rattle.system_text.proofs.numbers.read_numbers.Goals.{else-loop-words-test, then-loop-words-test+in-default}
+use Rattle.system_text.proofs.numbers.read_numbers.Goals.{else-loop-words-test, then-loop-words-test+in_default}
 
 pub returns-in_err-read_number : goal.returns-in_err-read_number
 returns-in_err-read_number g c =
@@ -43,7 +43,7 @@ returns g c =
       | else-loop-words-test w ↦
           let p = read_all one c.args.most start (left l.words) done (vec_len l.numbers) l.invariant (omega (arith, w.loop-words-test.false)) in
           record { numbers = ap formed p.0; rest = ap left w.words-is ∙ p.1 }
-      | then-loop-words-test+in-default w ↦
+      | then-loop-words-test+in_default w ↦
           let none = w.in_default.ensures in
           let p = read_end one c.args.most start (left l.words) done (vec_len l.numbers) l.invariant none.0 in
           record { numbers = ap formed p.0; rest = ap left w.words-is ∙ none.1 ∙ sym none.0 ∙ p.1 }

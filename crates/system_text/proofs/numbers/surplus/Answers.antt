@@ -10,18 +10,18 @@ use Rattle.system_text.proofs.numbers.surplus.Goals as goal
 pub loop-word-init : goal.loop-word-init
 loop-word-init g c = any_start (number_of g.R.Real.format) (left c.args.words.now)
 
-pub returns-in_err--number : goal.returns-in_err--number
-returns-in_err--number g c =
+pub returns-in_err-_number : goal.returns-in_err-_number
+returns-in_err-_number g c =
     let one = number_of g.R.Real.format in
     let p = err_from_is_err_and c.from_residual.result c.from_residual.ensures.1 in
     p.1 ∙ ap Err p.2
     ∙ sym (ap formed (sym c.loop-word.invariant ∙ ap (λ ws. any_more c.loop-word.any (all_of one ws)) c.in-Some.ensures
-    ∙ any_bad one c.loop-word.any c.in-Some.word.now (left c.next_word.new.self) (sym c.in_err--number.ensures)))
+    ∙ any_bad one c.loop-word.any c.in-Some.word.now (left c.next_word.new.self) (sym c.in_err-_number.ensures)))
 
 pub loop-word-preserved : goal.loop-word-preserved
 loop-word-preserved g c =
     let one = number_of g.R.Real.format in
-    sym (any_word one c.loop-word.any c.in-Some.word.now (left c.next_word.new.self) _ (sym c.in_ok--number.ensures))
+    sym (any_word one c.loop-word.any c.in-Some.word.now (left c.next_word.new.self) _ (sym c.in_ok-_number.ensures))
     ∙ sym (ap (λ ws. any_more c.loop-word.any (all_of one ws)) c.in-Some.ensures) ∙ c.loop-word.invariant
 
 pub returns : goal.returns

@@ -3,8 +3,8 @@ use lib.Count.{count_trailing_zeros, count_leading_zeros}
 use lib.Ieee.{low, prec, emax}
 use lib.Ieee.Fits.{two}
 use Rattle.number_text.proofs.Exactly.{zero-exactly, refused-low, refused-long, refused-above, accepted, whole_pos, digits_of, moved-whole, moved-held}
-use Rattle.number_text.proofs.exact.exact_value.Goals as goal
-use Rattle.number_text.proofs.exact.exact_value.Goals.{then-digits-precision-via-then-digits-precision, then-digits-precision-via-else-digits-precision+then-digits-place}
+use Rattle.number_text.proofs.exact_word.exact_value.Goals as goal
+use Rattle.number_text.proofs.exact_word.exact_value.Goals.{then-digits-precision-via-then-digits-precision, then-digits-precision-via-else-digits-precision+then-digits-place}
 
 pub returns-then-m-eq0 : goal.returns-then-m-eq0
 returns-then-m-eq0 g c =
