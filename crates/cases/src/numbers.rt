@@ -98,7 +98,10 @@ fn thirds(rt: HostRuntime) -> Result<(), Fail> {
     let mut text = Vec::new(rt.alloc());
     write_number(1.0f64 / 3.0, &mut text)?;
     write_number(1.0f32 / 3.0, &mut text)?;
-    assert_eq!(rt; text.as_slice(), b"0x15555555555555p-540xaaaaabp-25".as_slice());
+    assert_eq!(rt;
+        text.as_slice(),
+        b"0x15555555555555p-540xaaaaabp-25".as_slice()
+    );
     Ok(())
 }
 

@@ -79,11 +79,17 @@ fn solve_refusals(rt: HostRuntime) -> Result<(), Fail> {
 #[test]
 fn too_long(rt: HostRuntime) -> Result<(), Fail> {
     let text = vec![in rt.alloc(); b'x'; 16777217]?;
-    assert_eq!(rt; solve_text(rt.alloc(), &text)?.as_slice(), b"no answer 1\n");
-    assert_eq!(rt; again_text(rt.alloc(), &text)?.as_slice(), b"no answer 1\n");
+    assert_eq!(rt;
+        solve_text(rt.alloc(), &text)?.as_slice(),
+        b"no answer 1\n".as_slice()
+    );
+    assert_eq!(rt;
+        again_text(rt.alloc(), &text)?.as_slice(),
+        b"no answer 1\n".as_slice()
+    );
     assert_eq!(rt;
         solve_text(rt.alloc(), &text[1..])?.as_slice(),
-        b"no answer 7\n"
+        b"no answer 7\n".as_slice()
     );
     Ok(())
 }

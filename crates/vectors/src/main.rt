@@ -56,9 +56,9 @@ fn next_case(input: &[u8]) -> Option<Case<'_>>
 }
 
 fn printed(heap: Global, case: &Case) -> Result<Vec<u8>, AllocError> {
-    if case.program == b"solve" {
+    if case.program == b"solve".as_slice() {
         solve_text(heap, case.text)
-    } else if case.program == b"factors" {
+    } else if case.program == b"factors".as_slice() {
         factors_text(heap, case.text)
     } else {
         again_text(heap, case.text)

@@ -34,14 +34,14 @@ returns g c =
     let right = c.in_ok-right_side.ensures in
     let call = c.in_ok-solve_with.ensures in
     let x : c.deref-7.result.now ≡ c.solve_with.new.x =
-    c.deref-7.ensures.value ∙ with_items_is c.in_ok-x.x c.solve_with.new.x (c.solve_with.auto.x ∙ c.deref-mut-3.ensures.len) in
+    c.deref-7.ensures.value ∙ with_items_is c.in_ok-x.x c.solve_with.new.x (c.solve_with.auto.x ∙ c.deref_mut-3.ensures.len) in
     solve_lines_lem m.val h (left c.args.words.now) m.format c.requires (vec_items e.entries) e.ensures
-    c.deref-5.result.now c.deref-6.result.now c.deref-mut.result.now c.deref-mut-2.result.now c.deref-mut-3.result.now
+    c.deref-5.result.now c.deref-6.result.now c.deref_mut.result.now c.deref_mut-2.result.now c.deref_mut-3.result.now
     (ap (map m.val) c.deref-5.ensures.value ∙ matrix.0 ∙ ap (λ xs. coefficients n n (map m.val xs)) c.deref.ensures.value)
     (ap (map m.val) c.deref-6.ensures.value ∙ right.0 ∙ ap (λ xs. right_side n n (map m.val xs)) c.deref-2.ensures.value)
-    (c.deref-mut.ensures.len ∙ c.in_ok-lu.ensures.len ∙ c.deref-3.ensures.len ∙ matrix.1)
-    (c.deref-mut-2.ensures.len ∙ c.in_ok-order.ensures.len)
-    (c.deref-mut-3.ensures.len ∙ c.in_ok-x.ensures.len ∙ c.deref-4.ensures.len ∙ right.1)
+    (c.deref_mut.ensures.len ∙ c.in_ok-lu.ensures.len ∙ c.deref-3.ensures.len ∙ matrix.1)
+    (c.deref_mut-2.ensures.len ∙ c.in_ok-order.ensures.len)
+    (c.deref_mut-3.ensures.len ∙ c.in_ok-x.ensures.len ∙ c.deref-4.ensures.len ∙ right.1)
     c.solve_with.new.x call.outcome call.answer
     ∙ ap (λ y. Ok (answer (map m.val y))) (sym x)
     ∙ ap Ok (sym (c.in_ok-write_answer.ensures ∙ ap (λ t. t ++ answer (map m.val c.deref-7.result.now)) c.new-lines.ensures.items))
