@@ -26,7 +26,7 @@ abbrev pub after : ℕ → List ℕ → List ℕ
 after c [] = []
 after c (b ∷ bs) = cond (b == c) bs (after c bs)
 
--- A text without the minus that it may begin with; `minus` tells whether it does.
+-- A text without the minus that it may begin with; `starts_with_minus` tells whether it does.
 abbrev pub unsigned : List ℕ → List ℕ
 unsigned w = cond (starts_with_minus w) (drop 1 w) w
 
