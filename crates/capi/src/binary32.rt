@@ -1,4 +1,4 @@
-// The calls in binary32.
+// The calls in binary32. C has no generic functions, so each format has functions of names of its own.
 ghost use Rattle.std.specs.Float.{binary32};
 ghost use Rattle.capi.specs.Calls.{SolveCall, FactorCall, AgainCall, MultiplyCall};
 

@@ -20,8 +20,7 @@ impl Columned for FactorRefusal {
     fn column(self, _n: usize) -> Option<usize> {
         match self {
             FactorRefusal::Input(_) => None,
-            FactorRefusal::Pivot(k) => Some(k),
-            FactorRefusal::Range(k) => Some(k),
+            FactorRefusal::Pivot(k) | FactorRefusal::Range(k) => Some(k),
         }
     }
 }
@@ -42,14 +41,13 @@ impl Columned for AgainRefusal {
 
     fn column(self, n: usize) -> Option<usize> {
         match self {
-            AgainRefusal::Input(_) => None,
-            AgainRefusal::Factors => None,
+            AgainRefusal::Input(_) | AgainRefusal::Factors => None,
             AgainRefusal::Range => Some(n),
         }
     }
 }
 
-// The number of an outcome. The column of a refusal that has one is written.
+// The number of an outcome, by which alone C knows it. The column of a refusal that has one is written.
 pub fn report<E: Columned>(outcome: Result<(), E>, n: usize, column: &mut usize) -> u32
     ensures number { result ≡ outcome_number E.Numbered.numbered outcome }
     ensures column { column.new ≡ outcome_column (E.Columned.columned n) outcome column.old }

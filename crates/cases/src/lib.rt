@@ -1,15 +1,8 @@
-// Examples of every call and program, in both formats: the edges of the rules, and what each refusal leaves.
+// Examples of what the programs print, in both formats: answers, and the order in which refusals are looked for; and what
+// the calls leave in their outputs.
 #![tactic(auto)]
 
 #[cfg(test)]
 mod calls;
 #[cfg(test)]
-mod factors;
-#[cfg(test)]
-mod numbers;
-#[cfg(test)]
-mod products;
-#[cfg(test)]
 mod programs;
-#[cfg(test)]
-mod solves;

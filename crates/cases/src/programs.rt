@@ -4,31 +4,18 @@ use std::process::Abort;
 use std::test::Fail;
 use text_calls::{again_text, factors_text, solve_text};
 
-#[derive(Clone, Copy)]
-enum Program {
-    Solve,
-    Factors,
-    Again,
-}
-
-fn printed(heap: Global, program: Program, text: &[u8]) -> Result<Vec<u8>, AllocError> {
-    match program {
-        Program::Solve => solve_text(heap, text),
-        Program::Factors => factors_text(heap, text),
-        Program::Again => again_text(heap, text),
-    }
-}
-
 // Each row: a text, and what the program prints for it.
 fn prints(
     rt: &impl Abort,
     heap: Global,
-    program: Program,
+    program: fn(Global, &[u8]) -> Result<Vec<u8>, AllocError>,
     rows: &[(&str, &str)],
-) -> Result<(), Fail> {
-    for row in rows {
-        let lines = printed(heap, program, row.0.as_bytes())?;
-        assert_eq!(rt; lines.as_slice(), row.1.as_bytes());
+) -> Result<(), Fail>
+    requires { IsAlwaysCallable program }
+{
+    for (text, lines) in rows {
+        let printed = program(heap, text.as_bytes())?;
+        assert_eq!(rt; printed.as_slice(), lines.as_bytes());
     }
     Ok(())
 }
@@ -45,7 +32,7 @@ fn answers(rt: HostRuntime) -> Result<(), Fail> {
         ("system 0000000001 3 1", "answer\n0x15555555555555p-54\n"),
         ("system 1 0x1p600 -0", "answer\n-0x0p0\n"),
     ];
-    prints(&rt, rt.alloc(), Program::Solve, &rows)
+    prints(&rt, rt.alloc(), solve_text, &rows)
 }
 
 // Refusals of a system's text, and of the work.
@@ -72,7 +59,7 @@ fn solve_refusals(rt: HostRuntime) -> Result<(), Fail> {
         ("system 2 0x1p-1001 1 0 1 1 0", "no answer 6 0\n"),
         ("system 1 0x1p-600 0x1p600", "no answer 6 solving\n"),
     ];
-    prints(&rt, rt.alloc(), Program::Solve, &rows)
+    prints(&rt, rt.alloc(), solve_text, &rows)
 }
 
 // A text that is too long is refused for that alone.
@@ -108,7 +95,7 @@ fn factors_texts(rt: HostRuntime) -> Result<(), Fail> {
         ("system 1 3", "no answer 8\n"),
         ("system 0 z", "no answer 1\n"),
     ];
-    prints(&rt, rt.alloc(), Program::Factors, &rows)
+    prints(&rt, rt.alloc(), factors_text, &rows)
 }
 
 // Right sides, one after the other.
@@ -135,7 +122,7 @@ fn right_sides(rt: HostRuntime) -> Result<(), Fail> {
             "no answer 6 solving\nanswer\n0x1p600\n",
         ),
     ];
-    prints(&rt, rt.alloc(), Program::Again, &rows)
+    prints(&rt, rt.alloc(), again_text, &rows)
 }
 
 // Refusals of the head.
@@ -159,5 +146,5 @@ fn again_refusals(rt: HostRuntime) -> Result<(), Fail> {
         ("factors 2 0 0 1 0 0 1 1 2", "no answer 4\n"),
         ("factors 2 0 1 1 0 0 -0", "no answer 4\n"),
     ];
-    prints(&rt, rt.alloc(), Program::Again, &rows)
+    prints(&rt, rt.alloc(), again_text, &rows)
 }

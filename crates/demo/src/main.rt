@@ -8,7 +8,6 @@ mod texts;
 use element::Real;
 use number_text::Digits;
 use show::{show_factors, show_product, show_system};
-use solver::Solver;
 use std::io;
 
 // A square panel of bars with both diagonals; the loads pull at one corner and press on the other.
@@ -18,7 +17,7 @@ const TRUSS: &str =
 const LOADS: &str = "0 10 0 0 -6";
 
 // What is the same in both formats.
-fn show_cases<R: Digits + Solver>(rt: &HostRuntime) -> io::Result<()> {
+fn show_cases<R: Digits>(rt: &HostRuntime) -> io::Result<()> {
     show_factors::<R>(rt, 2, "2 1 / 4 3")?;
     show_factors::<R>(rt, 2, "1 1 / 1 1")?;
     show_factors::<R>(rt, 2, "0 0 / 0 0")?;
@@ -35,7 +34,7 @@ fn show_cases<R: Digits + Solver>(rt: &HostRuntime) -> io::Result<()> {
 }
 
 // What is out of range in one format, for a number near the middle of the range above 1 and its reciprocal.
-fn show_limits<R: Digits + Solver>(rt: &HostRuntime, large: &str, small: &str) -> io::Result<()> {
+fn show_limits<R: Digits>(rt: &HostRuntime, large: &str, small: &str) -> io::Result<()> {
     show_system::<R>(rt, small, large)?;
     show_system::<R>(rt, large, small)?;
     show_system::<R>(rt, large, "-0")?;

@@ -1,20 +1,14 @@
 // One case of each call, worked out and printed.
 use crate::texts::{numbers, show_numbers};
-use element::{Numbered, Real};
+use element::{Multiply, Numbered, Real};
 use factor::factor_matrix;
-use model::FactorRefusal;
 use number_text::Digits;
-use solver::Solver;
+use solver::Outcomes;
 use std::io;
+use text_model::TextRefusal;
 
-fn show_refusal(rt: &HostRuntime, refusal: FactorRefusal) -> io::Result<()> {
-    let number = refusal.number();
-    print!(rt; "no answer {number}")?;
-    match refusal {
-        FactorRefusal::Input(_) => Ok(()),
-        FactorRefusal::Pivot(column) => print!(rt; " {column}"),
-        FactorRefusal::Range(column) => print!(rt; " {column}"),
-    }
+fn show_refusal(rt: &HostRuntime, refusal: TextRefusal) -> io::Result<()> {
+    print!(rt; "no answer {refusal}")
 }
 
 // The factors and the order of a matrix of n rows, or the refusal and what it leaves.
@@ -27,24 +21,20 @@ pub fn show_factors<R: Digits>(rt: &HostRuntime, n: usize, matrix: &str) -> io::
     match factor_matrix(n, &a, &mut lu, &mut order) {
         Ok(()) => print!(rt; "factors")?,
         Err(refusal) => {
-            show_refusal(rt, refusal)?;
+            show_refusal(rt, TextRefusal::from(refusal))?;
             print!(rt; ", left")?;
         }
     }
     show_numbers(rt, &lu)?;
     print!(rt; " order")?;
-    for row in order.iter() {
+    for row in &order {
         print!(rt; " {row}")?;
     }
     println!(rt; "")
 }
 
 // The answer of a system, or its refusal. Where the factoring is what refuses, it says at which column.
-pub fn show_system<R: Digits + Solver>(
-    rt: &HostRuntime,
-    matrix: &str,
-    right: &str,
-) -> io::Result<()> {
+pub fn show_system<R: Digits>(rt: &HostRuntime, matrix: &str, right: &str) -> io::Result<()> {
     let heap = rt.alloc();
     let a = numbers::<R>(heap, matrix)?;
     let b = numbers::<R>(heap, right)?;
@@ -53,36 +43,29 @@ pub fn show_system<R: Digits + Solver>(
     let mut order = vec![in heap; 0u16; n]?;
     let mut x = Vec::from_slice(heap, &b)?;
     print!(rt; "{matrix} with {right}: ")?;
-    let number = R::solve(n, &a, &b, &mut lu, &mut order, &mut x);
-    if number == 0 {
-        print!(rt; "answer")?;
-        show_numbers(rt, &x)?;
-    } else {
-        match factor_matrix(n, &a, &mut lu, &mut order) {
-            Ok(()) => print!(rt; "no answer {number} solving")?,
-            Err(refusal) => show_refusal(rt, refusal)?,
+    match R::solve_outcome(n, &a, &b, &mut lu, &mut order, &mut x) {
+        Ok(()) => {
+            print!(rt; "answer")?;
+            show_numbers(rt, &x)?;
         }
+        Err(refusal) => show_refusal(rt, TextRefusal::from(refusal))?,
     }
     println!(rt; "")
 }
 
 // The product of a matrix and a vector, or its refusal.
-pub fn show_product<R: Digits + Solver>(
-    rt: &HostRuntime,
-    matrix: &str,
-    vector: &str,
-) -> io::Result<()> {
+pub fn show_product<R: Digits>(rt: &HostRuntime, matrix: &str, vector: &str) -> io::Result<()> {
     let heap = rt.alloc();
     let a = numbers::<R>(heap, matrix)?;
     let x = numbers::<R>(heap, vector)?;
     let mut y = Vec::from_slice(heap, &x)?;
     print!(rt; "{matrix} times {vector}: ")?;
-    let number = R::multiply(x.len(), &a, &x, &mut y);
-    if number == 0 {
-        print!(rt; "answer")?;
-        show_numbers(rt, &y)?;
-    } else {
-        print!(rt; "no answer {number}")?;
+    match R::multiply(x.len(), &a, &x, &mut y) {
+        Ok(()) => {
+            print!(rt; "answer")?;
+            show_numbers(rt, &y)?;
+        }
+        Err(refusal) => print!(rt; "no answer {}", refusal.number())?,
     }
     println!(rt; "")
 }

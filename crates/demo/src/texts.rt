@@ -7,20 +7,16 @@ use std::io::Write;
 
 // The numbers of a text, in which a `/` ends a row.
 pub fn numbers<R: Digits>(heap: Global, text: &str) -> io::Result<Vec<R>> {
-    let mut list = vec![in heap]?;
-    for word in text.split_ascii_whitespace() {
-        if word != "/" {
-            let Ok(x) = read_number(word.as_bytes()) else {
-                return Err(io::Error::from(io::ErrorKind::InvalidData));
-            };
-            list.push(x)?;
-        }
-    }
-    Ok(list)
+    text.split_ascii_whitespace()
+        .filter(|word| *word != "/")
+        .map(|word| {
+            read_number(word.as_bytes()).map_err(|_| io::Error::from(io::ErrorKind::InvalidData))
+        })
+        .try_collect(heap)
 }
 
 pub fn show_numbers<R: Digits>(rt: &HostRuntime, numbers: &[R]) -> io::Result<()> {
-    for x in numbers.iter() {
+    for x in numbers {
         let mut text = vec![in rt.alloc(); b' ']?;
         match write_number(*x, &mut text) {
             Ok(()) => rt.write_all(&text)?,

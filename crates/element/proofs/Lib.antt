@@ -2,6 +2,7 @@ pub mod Comparisons
 pub mod Finite
 pub mod Runs
 pub mod Rows
+pub mod Split
 pub mod Outcome
 pub mod Step
 pub mod Accumulation

@@ -1,5 +1,5 @@
 -- The call `multiply` case by case: what it answers and what it leaves, from what was found on the way. v is what an element is as a float.
-use Rattle.std.proofs.Common.{◌≡◌, ℕ, ◌*◌, ◌≤◌, Bool, true, false, cond, ◌&&◌, T, eqb, leb, List, map, length, is_ok, Ok, Err, Result, sym, refl, ap, ◌∙◌, eqb→eq, leb→le}
+use Rattle.std.proofs.Common.{◌≡◌, ℕ, ◌*◌, ◌≤◌, Bool, true, false, cond, ◌&&◌, T, eqb, leb, List, map, length, is_ok, Ok, Err, Result, sym, refl, ap, ap₂, ◌∙◌, ◌==◌, eqb→eq, leb→le}
 use lib.Ieee.Fits.{and_l, and_r}
 use lib.Ieee.{Float, Format}
 use Rattle.std.proofs.lemmas.List.{length-map}
@@ -11,10 +11,23 @@ use Rattle.element.specs.Matrix.{Row, matrix, all_finite}
 use Rattle.element.specs.Products.{sum_rows, rows_in_range}
 use Rattle.element.specs.Multiply.{size_taken, lengths_fit, inputs, multiplied, multiply_inputs, multiply_outcome, multiply_output}
 
+-- tests of a list, one after the other
+two : (p q : Bool) → (p && (q && true)) ≡ (p && q)
+two true true = refl
+two true false = refl
+two false q = refl
+
+three : (p q r : Bool) → ((p && true) && (q && (r && true))) ≡ (p && q && r)
+three true q r = two q r
+three false q r = refl
+
 module _ {X : Type 0} (v : X → Float) (f : Format) (n : ℕ) (a x y : List X) where
   -- what `check_inputs` answers
   abbrev pub checked : Result (Unit {0}) InputRefusal
   checked = inputs (size_taken n) (lengths_fit n (length a) (length x) (length y)) (all_finite (map v a) && all_finite (map v x))
+
+  pub checked-is : inputs (size_taken n) ((length a == n * n && true) && (length x == n && (length y == n && true))) (all_finite (map v a) && (all_finite (map v x) && true)) ≡ checked
+  checked-is = ap₂ (inputs (size_taken n)) (three (length a == n * n) (length x == n) (length y == n)) (two (all_finite (map v a)) (all_finite (map v x)))
 
   checked-same : multiply_inputs n (map v a) (map v x) (length y) ≡ checked
   checked-same = rw (length-map a v, length-map x v)

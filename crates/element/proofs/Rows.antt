@@ -1,30 +1,47 @@
 -- The rows of a matrix that lies in one slice, as a loop over them takes them: the rows from i on, the next one, and the end.
-use Rattle.std.proofs.Common.{◌≡◌, ℕ, suc, ◌+◌, ◌-◌, ◌*◌, ◌<◌, ◌≤◌, Bool, true, false, ◌&&◌, List, [], ◌∷◌, ◌++◌, map, length, get_or, take, drop, set, sym, ap, ◌∙◌, ap₂, mul-le-mul_right, arith}
-use lib.Ieee.{Float, Format}
-use Rattle.std.proofs.lemmas.List.{drop_all, drop-drop, take-map, drop-map, take_more_set, map_push, append-nil, append_assoc}
+use Rattle.std.proofs.Common.{◌≡◌, ℕ, suc, ◌+◌, ◌-◌, ◌*◌, ◌<◌, ◌≤◌, Bool, true, false, ◌&&◌, T, List, [], ◌∷◌, ◌++◌, map, length, take, drop, set, sym, refl, ap, ◌∙◌, ap₂, mul-le-mul_right, arith}
+use lib.Ieee.{Float, Format, fits}
+use lib.Ieee.Fits.{and_i}
+use lib.Ieee.Scale.{finite}
+use Rattle.std.specs.List.{All, list_all}
+use Rattle.std.proofs.lemmas.List.{drop-drop, take-map, drop-map, take_more_set, map_push, append-nil, append_assoc}
+use Rattle.std.proofs.lemmas.List.Elements.{All-head, All-tail}
 use Rattle.element.specs.Matrix.{Row, Matrix, rows_of, all_finite}
 use Rattle.element.specs.Products.{sum_products, sum_in_range, sum_rows, rows_in_range}
-use Rattle.element.proofs.Runs.{rest}
-use lib.Ieee.Scale.{finite}
+use Rattle.element.specs.Promises.{all_fit}
 
--- ---- entries that are finite
-module _ {X : Type 0} (v : X → Float) (xs : List X) where
-  -- with i entries passed, what is left comes to p
-  abbrev pub FiniteTo : ℕ → Bool → Type 0
-  FiniteTo i p = all_finite (map v (drop i xs)) ≡ p
-
-  module _ (i : ℕ) (p : Bool) (x : X) (h : i < length xs) (e : x ≡ get_or xs i x) (t : FiniteTo i p) where
-    pub finite-next : finite (v x) ≡ true → FiniteTo (i + 1) p
-    unfolding all_finite
-    finite-next f = sym (ap (λ b. b && all_finite (map v (drop (i + 1) xs))) f) ∙ sym (ap all_finite (rest v xs i x h e)) ∙ t
-
-    pub finite_fail : finite (v x) ≡ false → p ≡ false
-    unfolding all_finite
-    finite_fail f = sym t ∙ ap all_finite (rest v xs i x h e) ∙ ap (λ b. b && all_finite (map v (drop (i + 1) xs))) f
-
-  pub finite_end : (i : ℕ) (p : Bool) → length xs ≤ i → FiniteTo i p → p ≡ true
+-- ---- entries that are finite, or values of a format
+module _ {X : Type 0} (v : X → Float) where
+  pub finite-all : (xs : List X) → list_all (λ x. finite (v x)) xs ≡ all_finite (map v xs)
   unfolding all_finite
-  finite_end i p h t = sym t ∙ ap (λ zs. all_finite (map v zs)) (drop_all i xs h)
+  finite-all [] = refl
+  finite-all (x ∷ xs) = ap (λ b. finite (v x) && b) (finite-all xs)
+
+  pub fit-all : (f : Format) (xs : List X) → All (λ x. T (fits f (v x))) xs → T (all_fit f (map v xs))
+  unfolding all_fit
+  fit-all f [] each = tt
+  fit-all f (x ∷ xs) each = and_i (fits f (v x)) (all_fit f (map v xs)) (All-head (λ y. T (fits f (v y))) x xs each) (fit-all f xs (All-tail (λ y. T (fits f (v y))) x xs each))
+
+-- ---- rows that are left
+-- the tests of the rows that are left come to p
+module _ {X : Type 0} (v : X → Float) (f : Format) (x : Row) where
+  abbrev pub RangeTo : List (List X) → Bool → Type 0
+  RangeTo rows p = rows_in_range f (map (map v) rows) x ≡ p
+
+  module _ {rows rest : List (List X)} {row : List X} {p : Bool} (steps : rows ≡ row ∷ rest) (t : RangeTo rows p) where
+    opened : (sum_in_range f (map v row) x && rows_in_range f (map (map v) rest) x) ≡ p
+    unfolding rows_in_range
+    opened = sym (ap (λ rs. rows_in_range f (map (map v) rs) x) steps) ∙ t
+
+    pub range-next : sum_in_range f (map v row) x ≡ true → RangeTo rest p
+    range-next e = sym (ap (λ b. b && rows_in_range f (map (map v) rest) x) e) ∙ opened
+
+    pub range_fail : sum_in_range f (map v row) x ≡ false → p ≡ false
+    range_fail e = sym opened ∙ ap (λ b. b && rows_in_range f (map (map v) rest) x) e
+
+  pub range_end : {rows : List (List X)} {p : Bool} → rows ≡ [] → RangeTo rows p → p ≡ true
+  unfolding rows_in_range
+  range_end none t = sym t ∙ ap (λ rs. rows_in_range f (map (map v) rs) x) none
 
 -- ---- rows
 -- the rows from i on, of a square matrix of size n
@@ -58,25 +75,6 @@ pub row-values : {X : Type 0} (v : X → Float) (n i : ℕ) (xs r : List X) → 
 row-values v n i xs r e = ap (map v) e ∙ sym (ap (take n) (drop-map v (i * n) xs) ∙ take-map v n (drop (i * n) xs))
 
 module _ (f : Format) (n : ℕ) (a x : Row) where
-  -- with i rows passed, the tests of what is left come to p
-  abbrev pub RangeTo : ℕ → Bool → Type 0
-  RangeTo i p = rows_in_range f (rows_from n i a) x ≡ p
-
-  module _ (i : ℕ) (p : Bool) (h : i < n) (t : RangeTo i p) where
-    opened : (sum_in_range f (take n (drop (i * n) a)) x && rows_in_range f (rows_from n (i + 1) a) x) ≡ p
-    unfolding rows_in_range
-    opened = sym (ap (λ rs. rows_in_range f rs x) (rows_next n i a h)) ∙ t
-
-    pub range-next : sum_in_range f (take n (drop (i * n) a)) x ≡ true → RangeTo (i + 1) p
-    range-next e = sym (ap (λ b. b && rows_in_range f (rows_from n (i + 1) a) x) e) ∙ opened
-
-    pub range_fail : sum_in_range f (take n (drop (i * n) a)) x ≡ false → p ≡ false
-    range_fail e = sym opened ∙ ap (λ b. b && rows_in_range f (rows_from n (i + 1) a) x) e
-
-  pub range_end : (i : ℕ) (p : Bool) → n ≤ i → RangeTo i p → p ≡ true
-  unfolding rows_in_range
-  range_end i p h t = sym t ∙ ap (λ rs. rows_in_range f rs x) (rows_end n i a h)
-
   -- with `done` written, what is left comes to r
   abbrev pub SumsTo : Row → ℕ → Row → Type 0
   SumsTo done i r = done ++ sum_rows f (rows_from n i a) x ≡ r

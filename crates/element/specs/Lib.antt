@@ -1,5 +1,6 @@
 pub mod Refusals
 pub mod Matrix
 pub mod Products
+pub mod Rows
 pub mod Multiply
 pub mod Promises

@@ -1,4 +1,6 @@
 // The element type `f64`: binary64.
+// It repeats the other format's: each method is one operator, comparison or constant of its type, so a code for both would
+// need a trait with these same methods, or operators that each ask for a proof at every sum.
 ghost use Rattle.std.specs.Float.{binary64};
 
 use crate::real::Real;

@@ -1,4 +1,4 @@
-// The call `multiply` for the element types, with what its answer is worth.
+// The call `multiply` of each element type, with what its answer is worth.
 ghost use Rattle.std.specs.Prelude.{◌≡◌, true, map, length, is_ok, OnOk, ◌≢◌};
 ghost use Rattle.element.specs.Multiply.{multiply_outcome, multiply_output};
 ghost use Rattle.element.specs.Promises.{ProductSubtracted, ProductsSubtracted, ProductsNear};
@@ -16,14 +16,8 @@ pub trait Multiply: Real {
         ensures near { OnOk result (ProductsNear Self.Real.format n (map Self.Real.val a.now) (map Self.Real.val x.now) (map Self.Real.val y.new)) };
 }
 
-impl Multiply for f64 {
-    fn multiply(n: usize, a: &[f64], x: &[f64], y: &mut [f64]) -> Result<(), MultiplyRefusal> {
-        multiply_matrix(n, a, x, y)
-    }
-}
-
-impl Multiply for f32 {
-    fn multiply(n: usize, a: &[f32], x: &[f32], y: &mut [f32]) -> Result<(), MultiplyRefusal> {
+impl<R: Real> Multiply for R {
+    fn multiply(n: usize, a: &[R], x: &[R], y: &mut [R]) -> Result<(), MultiplyRefusal> {
         multiply_matrix(n, a, x, y)
     }
 }

@@ -4,6 +4,8 @@
 mod binary32;
 mod binary64;
 mod call;
+mod inputs;
+mod iteration;
 mod matrix;
 mod multiply;
 mod products;
@@ -13,8 +15,9 @@ mod refusal;
 mod tests;
 
 pub use call::{Multiply, product_subtracted, products_subtracted};
-pub use matrix::matrix_row;
-pub use multiply::{all_finite, multiply_matrix};
+pub use inputs::{all_finite, check_inputs};
+pub use matrix::{Matrix, MatrixRows};
+pub use multiply::multiply_matrix;
 pub use products::{add_product, subtract_product, subtract_products, sum_in_range, sum_products};
 pub use real::Real;
 pub use refusal::{InputRefusal, MultiplyRefusal, Numbered, outcome_number};

@@ -1,51 +1,23 @@
 // The call `multiply`: a square matrix, row by row in one slice, times a vector.
-ghost use Rattle.std.specs.Prelude.{◌≡◌, ◌*◌, ◌≤◌, true, ◌&&◌, map, length, is_ok, ◌≢◌};
-ghost use Rattle.element.specs.Matrix.{all_finite, matrix};
+ghost use Rattle.std.specs.Prelude.{◌≡◌, true, map, length, is_ok, OnOk, ◌≢◌};
+ghost use Rattle.element.specs.Rows.{matrix_values};
 ghost use Rattle.element.specs.Products.{sum_rows, rows_in_range};
-ghost use Rattle.element.specs.Multiply.{inputs, size_taken, lengths_fit, multiply_outcome, multiply_output};
+ghost use Rattle.element.specs.Multiply.{multiply_outcome, multiply_output};
+ghost use Rattle.element.specs.Promises.{ProductsNear};
 
-use crate::matrix::matrix_row;
+use crate::inputs::check_inputs;
+use crate::matrix::Matrix;
 use crate::products::{sum_in_range, sum_products};
 use crate::real::Real;
-use crate::refusal::{InputRefusal, MultiplyRefusal};
-
-// Whether every entry is finite.
-pub fn all_finite<R: Real>(xs: &[R]) -> bool
-    ensures { result ≡ all_finite (map R.Real.val xs.now) }
-{
-    for x in xs {
-        if !x.is_finite() {
-            return false;
-        }
-    }
-    true
-}
-
-// The size, then the lengths, then the entries; `m` is the length of the output.
-pub fn check_inputs<R: Real>(n: usize, a: &[R], x: &[R], m: usize) -> Result<(), InputRefusal>
-    ensures { result ≡ inputs (size_taken n) (lengths_fit n (length a.now) (length x.now) m) (all_finite (map R.Real.val a.now) && all_finite (map R.Real.val x.now)) }
-{
-    if !((1 <= n) & (n <= 128)) {
-        return Err(InputRefusal::Size);
-    }
-    if !((a.len() == n * n) & (x.len() == n) & (m == n)) {
-        return Err(InputRefusal::Length);
-    }
-    if !(all_finite(a) & all_finite(x)) {
-        return Err(InputRefusal::Entry);
-    }
-    Ok(())
-}
+use crate::refusal::MultiplyRefusal;
 
 // Whether everything on the way to the sums of all rows is in range.
-pub fn rows_in_range<R: Real>(n: usize, a: &[R], x: &[R]) -> bool
-    requires size { n ≤ 128 }
-    requires matrix { length a.now ≡ n * n }
-    requires vector { length x.now ≡ n }
-    ensures { result ≡ rows_in_range R.Real.format (matrix n (map R.Real.val a.now)) (map R.Real.val x.now) }
+pub fn rows_in_range<R: Real>(a: &Matrix<R>, x: &[R]) -> bool
+    requires { length x.now ≡ a.now.size }
+    ensures { result ≡ rows_in_range R.Real.format (matrix_values R.Real.val a.now) (map R.Real.val x.now) }
 {
-    for i in 0..n {
-        if !sum_in_range(matrix_row(n, a, i), x) {
+    for row in a.rows() {
+        if !sum_in_range(row, x) {
             return false;
         }
     }
@@ -53,15 +25,13 @@ pub fn rows_in_range<R: Real>(n: usize, a: &[R], x: &[R]) -> bool
 }
 
 // The sums of all rows.
-pub fn sum_rows<R: Real>(n: usize, a: &[R], x: &[R], y: &mut [R])
-    requires size { n ≤ 128 }
-    requires matrix { length a.now ≡ n * n }
-    requires vector { length x.now ≡ n }
-    requires output { length y.old ≡ n }
-    ensures { map R.Real.val y.new ≡ sum_rows R.Real.format (matrix n (map R.Real.val a.now)) (map R.Real.val x.now) }
+pub fn sum_rows<R: Real>(a: &Matrix<R>, x: &[R], y: &mut [R])
+    requires vector { length x.now ≡ a.now.size }
+    requires output { length y.old ≡ a.now.size }
+    ensures { map R.Real.val y.new ≡ sum_rows R.Real.format (matrix_values R.Real.val a.now) (map R.Real.val x.now) }
 {
-    for i in 0..n {
-        y[i] = sum_products(matrix_row(n, a, i), x);
+    for (i, entry) in y.iter_mut().enumerate() {
+        *entry = sum_products(a.row(i), x);
     }
 }
 
@@ -75,11 +45,13 @@ pub fn multiply_matrix<R: Real>(
     ensures outcome { result ≡ multiply_outcome R.Real.format n (map R.Real.val a.now) (map R.Real.val x.now) (length y.old) }
     ensures output { map R.Real.val y.new ≡ multiply_output R.Real.format n (map R.Real.val a.now) (map R.Real.val x.now) (map R.Real.val y.old) }
     ensures kept { (is_ok result ≢ true) → y.new ≡ y.old }
+    ensures near { OnOk result (ProductsNear R.Real.format n (map R.Real.val a.now) (map R.Real.val x.now) (map R.Real.val y.new)) }
 {
-    check_inputs(n, a, x, y.len())?;
-    if !rows_in_range(n, a, x) {
+    check_inputs(n, &[a.len()], &[x.len(), y.len()], &[a, x])?;
+    let matrix = Matrix::new(n, a);
+    if !rows_in_range(&matrix, x) {
         return Err(MultiplyRefusal::Range);
     }
-    sum_rows(n, a, x, y);
+    sum_rows(&matrix, x, y);
     Ok(())
 }

@@ -1,6 +1,7 @@
 // The number types: what a value is as a float, and the operations of its format, each rounded once.
-ghost use Rattle.std.specs.Prelude.{◌≡◌, false, Float};
-ghost use Rattle.std.specs.Float.Ieee.{add, sub, mul, div, lt};
+ghost use Rattle.std.specs.Prelude.{◌≡◌, ◌*◌, ◌^◌, ◌<◌, false, T, Float};
+ghost use Rattle.std.specs.Mem.{type_size};
+ghost use Rattle.std.specs.Float.Ieee.{add, sub, mul, div, lt, fits};
 ghost use Rattle.std.specs.Float.Ieee.Scale.{finite};
 ghost use Rattle.std.specs.Float.{float_with_sign, Format};
 ghost use Rattle.exact.specs.Value.{is_zero};
@@ -27,13 +28,15 @@ pub trait Real: Copy {
     fn over(&self, other: &Self) -> Self
         ensures { val result ≡ div format (val self.now) (val other.now) };
 
-    // +0, which sums begin with.
+    // +0, which sums begin with. A row of 128 of them fits in memory.
     fn zero() -> Self
-        ensures { val result ≡ zero_float };
+        ensures value { val result ≡ zero_float }
+        ensures small { 128 * type_size Self.row < 2 ^ 63 };
 
-    // Neither an infinity nor a NaN.
+    // Neither an infinity nor a NaN. Whoever asks learns too that the value is one of the format.
     fn is_finite(self) -> bool
-        ensures { result ≡ finite (val self) };
+        ensures value { result ≡ finite (val self) }
+        ensures fits { T (fits format (val self)) };
 
     // Either of the two signed zeros.
     fn is_zero(self) -> bool

@@ -3,7 +3,7 @@ ghost use Rattle.std.specs.Prelude.{◌≡◌, ℕ};
 ghost use Rattle.element.specs.declared.refusal.MultiplyRefusal.TheVariants.{Input};
 ghost use Rattle.element.specs.Refusals.{input_number, multiply_number, outcome_number};
 
-// A refusal has a number, by which the calls of the library answer.
+// A refusal has a number, by which the calls of the library answer: the rules and C know a refusal by no more.
 pub trait Numbered: Copy {
     ghost numbered: { Self → ℕ };
 
@@ -60,6 +60,7 @@ impl Numbered for MultiplyRefusal {
     }
 }
 
+// By hand, since a derived `From` has no `from_gives`, which clauses name.
 impl From<InputRefusal> for MultiplyRefusal {
     ghost from_gives = { λ s r. r ≡ Input s };
 

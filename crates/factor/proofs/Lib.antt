@@ -1,7 +1,6 @@
 pub mod Flat
 pub mod UpTo
 pub mod Largest
-pub mod Swaps
 pub mod Elimination
 pub mod Reaching
 pub mod Steps

@@ -1,10 +1,12 @@
 -- The looks at the factors of a column as loops over a row's entries and over the rows take them.
-use Rattle.std.proofs.Common.{◌≡◌, ℕ, ◌+◌, ◌<◌, ◌≤◌, Bool, ◌&&◌, [], length, drop, sym, ap, ◌∙◌}
+use Rattle.std.proofs.Common.{◌≡◌, ℕ, ◌+◌, ◌<◌, ◌≤◌, Bool, ◌&&◌, List, [], ◌∷◌, map, length, drop, sym, ap, ◌∙◌}
 use mathlib.Core.Bool.{and_assoc, and-true}
-use lib.Ieee.{Format}
+use lib.Ieee.{Float, Format}
 use Rattle.std.proofs.lemmas.List.{drop_more, drop_all}
+use Rattle.std.proofs.lemmas.List.{length-map}
+use Rattle.factor.proofs.Flat.{read, entry-taken, length-matrix}
 use Rattle.exact.specs.Threshold.{zero_or_reaches}
-use Rattle.element.specs.Matrix.{Row, Matrix, zero_float, at, row}
+use Rattle.element.specs.Matrix.{Row, zero_float, at}
 use Rattle.factor.specs.Thresholds.{all_reach, multiplier_reaches, multipliers_reach}
 
 -- ---- the entries of a row
@@ -25,19 +27,22 @@ module _ (f : Format) (xs : Row) where
   unfolding all_reach
   reach_end passed j p h t = sym (and-true passed) ∙ sym (ap (λ ys. passed && all_reach f ys) (drop_all j xs h)) ∙ t
 
--- ---- the multipliers of a column; ps is the pivot row
-module _ (f : Format) (k : ℕ) (ps : Row) (m : Matrix) where
-  abbrev pub MultipliersTo : Bool → ℕ → Bool → Type 0
-  MultipliersTo passed i p = (passed && multipliers_reach f k ps (drop i m)) ≡ p
+-- ---- the multipliers of a column in the rows that are left; ps is the pivot row
+module _ {X : Type 0} (v : X → Float) (f : Format) (k : ℕ) (ps : Row) where
+  abbrev pub MultipliersTo : Bool → List (List X) → Bool → Type 0
+  MultipliersTo passed rows p = (passed && multipliers_reach f k ps (map (map v) rows)) ≡ p
 
-  pub multipliers-next : (passed test : Bool) (i : ℕ) (p : Bool) → i < length m → test ≡ multiplier_reaches f k ps (row m i) → MultipliersTo passed i p → MultipliersTo (passed && test) (i + 1) p
+  pub multipliers-next : (passed test : Bool) {rows rest : List (List X)} {r : List X} {p : Bool} → rows ≡ r ∷ rest → test ≡ multiplier_reaches f k ps (map v r) → MultipliersTo passed rows p
+      → MultipliersTo (passed && test) rest p
   unfolding multipliers_reach
-  multipliers-next passed test i p h e t =
-      let left = multipliers_reach f k ps (drop (i + 1) m) in
+  multipliers-next passed test {rest = rest} steps e t =
+      let left = multipliers_reach f k ps (map (map v) rest) in
       and_assoc passed test left
-      ∙ ap (λ b. passed && b) (ap (λ b. b && left) e ∙ sym (ap (multipliers_reach f k ps) (drop_more m i [] h)))
+      ∙ ap (λ b. passed && b) (ap (λ b. b && left) e ∙ sym (ap (λ rs. multipliers_reach f k ps (map (map v) rs)) steps))
       ∙ t
 
-  pub multipliers_end : (passed : Bool) (i : ℕ) (p : Bool) → length m ≤ i → MultipliersTo passed i p → passed ≡ p
+  pub multipliers_end : (passed : Bool) {rows : List (List X)} {p : Bool} → rows ≡ [] → MultipliersTo passed rows p → passed ≡ p
   unfolding multipliers_reach
-  multipliers_end passed i p h t = sym (and-true passed) ∙ sym (ap (λ rs. passed && multipliers_reach f k ps rs) (drop_all i m h)) ∙ t
+  multipliers_end passed none t = sym (and-true passed) ∙ sym (ap (λ rs. passed && multipliers_reach f k ps (map (map v) rs)) none) ∙ t
+
+pub ruleset entries_reached = (reach_next, read, length-map)

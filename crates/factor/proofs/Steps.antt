@@ -1,11 +1,13 @@
 -- A factoring column by column, as a loop over the columns takes it.
 use Rattle.std.proofs.Common.{◌≡◌, ℕ, zero, suc, ◌+◌, ◌-◌, ◌<◌, Bool, true, false, cond, ◌++◌, take, drop, is_ok, Ok, Err, Result, sym, refl, ap, ◌∙◌, add-zero, add-suc, add-one, arith}
 use lib.Ieee.{Format}
-use Rattle.std.proofs.lemmas.Bool.{cond_both}
+use Rattle.std.proofs.lemmas.Bool.{cond_both, cond-true, cond-false}
 use Rattle.exact.specs.Value.{is_zero}
 use Rattle.element.specs.Matrix.{Matrix, at, row}
 use Rattle.model.specs.declared.FactorRefusal.{FactorRefusal}
 use Rattle.model.specs.declared.FactorRefusal.TheVariants.{Input, Pivot, Range}
+use Rattle.factor.specs.declared.factoring.Factoring.{Factoring as Held}
+use Rattle.factor.specs.State.{SameSlices, eliminated}
 use Rattle.model.specs.Factor.{Factoring, exchange, eliminate, eliminate_rows, eliminate_rows_in_range, column, columns}
 
 -- from the factoring s on; t is the factoring before column k, and u that after it
@@ -33,6 +35,29 @@ module _ (f : Format) (s : Factoring) where
       let here : u ≡ columns f (k + 1) s = columns-next k t u e w in
       let far : k + 1 + (n - (k + 1)) ≡ n = omega arith in
       here ∙ sym (refused_stays (k + 1) (n - (k + 1)) (ap (λ x. is_ok x.outcome) (sym here) ∙ err)) ∙ ap (λ c. columns f c s) far
+
+-- ---- what is left of column k after the exchange, case by case; t is the factoring then
+module _ (f : Format) (k : ℕ) (t s : Factoring) (e : t ≡ s) where
+  abbrev without-pivot : Bool
+  without-pivot = is_zero (at (row t.rows k) k)
+
+  abbrev ranged : Bool
+  ranged = eliminate_rows_in_range f k (row t.rows k) (drop (k + 1) t.rows)
+
+  pub zero_pivot : without-pivot ≡ true → record { rows = t.rows; order = t.order; outcome = Err (Pivot k) } ≡ eliminate f k s
+  zero_pivot z = sym (cond-true without-pivot _ _ z) ∙ ap (eliminate f k) e
+
+  pub out_of_range : without-pivot ≡ false → ranged ≡ false → record { rows = t.rows; order = t.order; outcome = Err (Range k) } ≡ eliminate f k s
+  out_of_range z r = sym (cond-false without-pivot _ _ z ∙ cond-false ranged _ _ r) ∙ ap (eliminate f k) e
+
+  pub done : (u : Factoring) → without-pivot ≡ false → ranged ≡ true → u ≡ eliminated f k t → u ≡ eliminate f k s
+  done u z r is = is ∙ sym (cond-false without-pivot _ _ z ∙ cond-true ranged _ _ r) ∙ ap (eliminate f k) e
+
+pub ruleset column_steps = (zero_pivot, out_of_range, done)
+
+-- ---- the same slices from one step to the next
+pub same-slices : {X : Type 0} (a b c : Held X) → SameSlices a b → SameSlices b c → SameSlices a c
+same-slices a b c p q = (q.0 ∙ p.0, q.1 ∙ p.1, q.2 ∙ p.2)
 
 -- ---- the outcome of the columns is never a refusal of the inputs
 abbrev pub of_inputs : Result (Unit {0}) FactorRefusal → Bool
@@ -63,3 +88,5 @@ pub columns-not-inputs : (f : Format) (k : ℕ) (s : Factoring) → NotInputs s 
 unfolding columns
 columns-not-inputs f zero s h = h
 columns-not-inputs f (suc k) s h = column-not-inputs f k (columns f k s) (columns-not-inputs f k s h)
+
+pub ruleset loop_steps = (columns-none, columns-next, same-slices)

@@ -35,3 +35,5 @@ written_all xs i h k w = let e : i ≡ length xs = omega arith in sym (take_all 
 
 pub up_to-below : (xs : List ℕ) → xs ≡ up_to (length xs) → (i : ℕ) → i < length xs → get_or xs i 0 < length xs
 up_to-below xs e i h = let same : get_or xs i 0 ≡ i = ap (λ ys. get_or ys i 0) e ∙ get_or-up_to (length xs) i h in omega arith
+
+pub ruleset writes = (written_next, written_all, up_to-below)

@@ -1,59 +1,43 @@
 // The columns of a factoring, one after the other.
-ghost use Rattle.std.specs.Prelude.{◌≡◌, ◌*◌, ◌<◌, ◌≤◌, length, Ok};
+ghost use Rattle.std.specs.Prelude.{◌≡◌, ◌<◌, Ok};
 ghost use Rattle.model.specs.Factor.{column, columns};
-ghost use Rattle.factor.specs.Slices.{factoring_of};
+ghost use Rattle.factor.specs.State.{state, SameSlices};
 
-use crate::eliminate::{eliminate_rows, rows_below_in_range};
-use crate::entries::entry;
-use crate::exchange::swap_rows;
-use crate::order::OrderMut;
-use crate::pivot::find_pivot;
+use crate::eliminate::rows_below_in_range;
+use crate::factoring::Factoring;
 use element::Real;
 use model::FactorRefusal;
 
-// Column k: the pivot's row changes places with row k; if the pivot is not zero and everything is in range, the column is
-// eliminated from the rows below.
-pub fn eliminate_column<R: Real>(
-    n: usize,
-    m: &mut [R],
-    order: &mut OrderMut,
-    k: usize,
-) -> Result<(), FactorRefusal>
-    requires size { n ≤ 128 }
-    requires matrix { length m.old ≡ n * n }
-    requires places { length order.old.places.now ≡ n }
-    requires column { k < n }
-    ensures column { factoring_of R.Real.val n m.new order.new.places.now result ≡ column R.Real.format k (factoring_of R.Real.val n m.old order.old.places.now (Ok tt)) }
-    ensures len { length order.new.places.now ≡ length order.old.places.now }
-    ensures lends { order.new.places.ghost_name ≡ order.old.places.ghost_name }
-{
-    let p = find_pivot(n, m, k);
-    swap_rows(n, m, k, p);
-    order.swap(k, p);
-    if entry(n, m, k, k).is_zero() {
-        return Err(FactorRefusal::Pivot(k));
+impl<'a, R: Real> Factoring<'a, R> {
+    // Column k: the pivot's row changes places with row k; if the pivot is not zero and everything is in range, the
+    // column is eliminated from the rows below.
+    #[tactic(auto, using(crate::proofs::Steps::column_steps))]
+    fn eliminate_column(&mut self, k: usize) -> Result<(), FactorRefusal>
+        requires { k < self.old.size }
+        ensures column { state R.Real.val self.new result ≡ column R.Real.format k (state R.Real.val self.old (Ok tt)) }
+        ensures lends { SameSlices self.old self.new }
+    {
+        self.exchange(k);
+        if self.pivot(k).is_zero() {
+            return Err(FactorRefusal::Pivot(k));
+        }
+        if !rows_below_in_range(&self.matrix(), k) {
+            return Err(FactorRefusal::Range(k));
+        }
+        self.eliminate_rows(k);
+        Ok(())
     }
-    if !rows_below_in_range(n, m, k) {
-        return Err(FactorRefusal::Range(k));
-    }
-    eliminate_rows(n, m, k);
-    Ok(())
-}
 
-// All columns, up to the first that has no pivot or is not in range.
-pub fn eliminate_columns<R: Real>(
-    n: usize,
-    m: &mut [R],
-    order: &mut OrderMut,
-) -> Result<(), FactorRefusal>
-    requires size { n ≤ 128 }
-    requires matrix { length m.old ≡ n * n }
-    requires places { length order.old.places.now ≡ n }
-    ensures columns { factoring_of R.Real.val n m.new order.new.places.now result ≡ columns R.Real.format n (factoring_of R.Real.val n m.old order.old.places.now (Ok tt)) }
-    ensures lends { order.new.places.ghost_name ≡ order.old.places.ghost_name }
-{
-    for k in 0..n {
-        eliminate_column(n, m, order, k)?;
+    // All columns, up to the first that has no pivot or is not in range.
+    #[tactic(auto, using(crate::proofs::Steps::loop_steps))]
+    pub fn eliminate_columns(&mut self) -> Result<(), FactorRefusal>
+        ensures columns { state R.Real.val self.new result ≡ columns R.Real.format self.old.size (state R.Real.val self.old (Ok tt)) }
+        ensures lends { SameSlices self.old self.new }
+    {
+        // By number, since a step takes the number of its column. `clear_columns` goes over them with another step.
+        for k in 0..self.size() {
+            self.eliminate_column(k)?;
+        }
+        Ok(())
     }
-    Ok(())
 }

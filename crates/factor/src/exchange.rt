@@ -5,7 +5,7 @@ ghost use Rattle.factor.specs.Slices.{matrix_of};
 
 use element::Real;
 
-// Rows i and j change places, whole.
+// Rows i and j of a matrix of size n change places, whole. A function of the slice, as `eliminate_from_row`.
 pub fn swap_rows<R: Real>(n: usize, m: &mut [R], i: usize, j: usize)
     requires size { n ≤ 128 }
     requires matrix { length m.old ≡ n * n }
@@ -13,7 +13,10 @@ pub fn swap_rows<R: Real>(n: usize, m: &mut [R], i: usize, j: usize)
     requires second { j < n }
     ensures { matrix_of R.Real.val n m.new ≡ swapped [] i j (matrix_of R.Real.val n m.old) }
 {
-    for c in 0..n {
-        m.swap(i * n + c, j * n + c);
+    let upper = i.min(j);
+    let lower = i.max(j);
+    if upper < lower {
+        let (above, from) = m.split_at_mut(lower * n);
+        above[upper * n..upper * n + n].swap_with_slice(&mut from[..n]);
     }
 }

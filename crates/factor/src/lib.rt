@@ -3,10 +3,9 @@
 
 mod columns;
 mod eliminate;
-mod entries;
 mod exchange;
 mod factor;
-mod order;
+mod factoring;
 mod pivot;
 #[cfg(test)]
 mod tests;

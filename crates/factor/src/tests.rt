@@ -1,18 +1,11 @@
 // The call `factor` of 2 by 2 matrices in both formats: the factors, the order, and each refusal.
 use crate::factor::factor_matrix;
-use element::InputRefusal;
+use element::{InputRefusal, Real};
 use model::FactorRefusal;
 
-// The outcome, the factors and the order.
-fn factor64(a: [f64; 4]) -> (Result<(), FactorRefusal>, [f64; 4], [u16; 2]) {
-    let mut lu = [7.0f64; 4];
-    let mut order = [9u16; 2];
-    let outcome = factor_matrix(2, &a, &mut lu, &mut order);
-    (outcome, lu, order)
-}
-
-fn factor32(a: [f32; 4]) -> (Result<(), FactorRefusal>, [f32; 4], [u16; 2]) {
-    let mut lu = [7.0f32; 4];
+// The outcome, and what is left in the factors and the order, which held 7 and 9.
+fn factored<R: Real + From<u8>>(a: [R; 4]) -> (Result<(), FactorRefusal>, [R; 4], [u16; 2]) {
+    let mut lu = [R::from(7u8); 4];
     let mut order = [9u16; 2];
     let outcome = factor_matrix(2, &a, &mut lu, &mut order);
     (outcome, lu, order)
@@ -21,15 +14,15 @@ fn factor32(a: [f32; 4]) -> (Result<(), FactorRefusal>, [f32; 4], [u16; 2]) {
 #[test]
 fn factors(rt: HostRuntime) {
     assert_eq!(rt;
-        factor64([2.0, 1.0, 4.0, 3.0]),
+        factored::<f64>([2.0, 1.0, 4.0, 3.0]),
         (Ok(()), [4.0, 3.0, 0.5, -0.5], [1, 0])
     );
     assert_eq!(rt;
-        factor64([0.0, 1.0, -1.0, 0.0]),
+        factored::<f64>([0.0, 1.0, -1.0, 0.0]),
         (Ok(()), [-1.0, 0.0, -0.0, 1.0], [1, 0])
     );
     assert_eq!(rt;
-        factor32([2.0, 1.0, 4.0, 3.0]),
+        factored::<f32>([2.0, 1.0, 4.0, 3.0]),
         (Ok(()), [4.0, 3.0, 0.5, -0.5], [1, 0])
     );
 }
@@ -37,11 +30,11 @@ fn factors(rt: HostRuntime) {
 #[test]
 fn first_of_equal_magnitudes(rt: HostRuntime) {
     assert_eq!(rt;
-        factor64([1.0, 1.0, -1.0, 1.0]),
+        factored::<f64>([1.0, 1.0, -1.0, 1.0]),
         (Ok(()), [1.0, 1.0, -1.0, 2.0], [0, 1])
     );
     assert_eq!(rt;
-        factor32([1.0, 1.0, -1.0, 1.0]),
+        factored::<f32>([1.0, 1.0, -1.0, 1.0]),
         (Ok(()), [1.0, 1.0, -1.0, 2.0], [0, 1])
     );
 }
@@ -49,15 +42,15 @@ fn first_of_equal_magnitudes(rt: HostRuntime) {
 #[test]
 fn zero_pivots(rt: HostRuntime) {
     assert_eq!(rt;
-        factor64([1.0; 4]),
+        factored::<f64>([1.0; 4]),
         (Err(FactorRefusal::Pivot(1)), [1.0, 1.0, 1.0, 0.0], [0, 1])
     );
     assert_eq!(rt;
-        factor64([-0.0; 4]),
+        factored::<f64>([-0.0; 4]),
         (Err(FactorRefusal::Pivot(0)), [0.0; 4], [0, 1])
     );
     assert_eq!(rt;
-        factor32([0.0; 4]),
+        factored::<f32>([0.0; 4]),
         (Err(FactorRefusal::Pivot(0)), [0.0; 4], [0, 1])
     );
 }
@@ -67,13 +60,28 @@ fn zero_pivots(rt: HostRuntime) {
 fn out_of_range(rt: HostRuntime) {
     let tiny = 4.6663180925160944e-302;
     assert_eq!(rt;
-        factor64([tiny, 1.0, 1.0, 1.0]),
+        factored::<f64>([tiny, 1.0, 1.0, 1.0]),
         (Err(FactorRefusal::Range(0)), [1.0, 1.0, tiny, 1.0], [1, 0])
     );
     let tiny = 3.85186e-34;
     assert_eq!(rt;
-        factor32([tiny, 1.0, 1.0, 1.0]),
+        factored::<f32>([tiny, 1.0, 1.0, 1.0]),
         (Err(FactorRefusal::Range(0)), [1.0, 1.0, tiny, 1.0], [1, 0])
+    );
+}
+
+// The multiplier is 2^-600 or 2^-60: below the threshold, but everything is in range.
+#[test]
+fn below_threshold(rt: HostRuntime) {
+    let small = 2.409919865102884e-181;
+    assert_eq!(rt;
+        factored::<f64>([small, 1.0, 1.0, 1.0]),
+        (Ok(()), [1.0, 1.0, small, 1.0], [1, 0])
+    );
+    let small = 8.673617379884035e-19;
+    assert_eq!(rt;
+        factored::<f32>([small, 1.0, 1.0, 1.0]),
+        (Ok(()), [1.0, 1.0, small, 1.0], [1, 0])
     );
 }
 
@@ -88,7 +96,7 @@ fn inputs(rt: HostRuntime) {
     assert_eq!(rt; lu, [7.0; 4]);
     assert_eq!(rt; order, [9, 9]);
     assert_eq!(rt;
-        factor64([1.0, 1.0, f64::NAN, 1.0]),
+        factored::<f64>([1.0, 1.0, f64::NAN, 1.0]),
         (
             Err(FactorRefusal::Input(InputRefusal::Entry)),
             [7.0; 4],

@@ -20,6 +20,10 @@ pub enum FactorRefusal {
     Range(usize),
 }
 
+// Something on the way through the two triangular solves is out of range.
+#[derive(Clone, Copy, PartialEq, Eq, Debug)]
+pub struct OutOfRange;
+
 // Why a system has no answer: its matrix, or something on the way through the two triangular solves is out of range.
 #[derive(Clone, Copy, PartialEq, Eq, Debug)]
 pub enum SolveRefusal {
@@ -70,6 +74,7 @@ impl Numbered for AgainRefusal {
     }
 }
 
+// By hand, as those below: a derived `From` has no `from_gives`, which clauses name.
 impl From<InputRefusal> for FactorRefusal {
     ghost from_gives = { λ s r. r ≡ factoring.Input s };
 
@@ -94,11 +99,27 @@ impl From<InputRefusal> for SolveRefusal {
     }
 }
 
+impl From<OutOfRange> for SolveRefusal {
+    ghost from_gives = { λ _ r. r ≡ solving.Range };
+
+    fn from(_refusal: OutOfRange) -> SolveRefusal {
+        SolveRefusal::Range
+    }
+}
+
 impl From<InputRefusal> for AgainRefusal {
     ghost from_gives = { λ s r. r ≡ again.Input s };
 
     fn from(refusal: InputRefusal) -> AgainRefusal {
         AgainRefusal::Input(refusal)
+    }
+}
+
+impl From<OutOfRange> for AgainRefusal {
+    ghost from_gives = { λ _ r. r ≡ again.Range };
+
+    fn from(_refusal: OutOfRange) -> AgainRefusal {
+        AgainRefusal::Range
     }
 }
 

@@ -1,41 +1,30 @@
 -- The parts of a text, taken apart byte by byte.
-use Rattle.std.proofs.Common.{◌≡◌, ℕ, suc, ◌+◌, ◌-◌, ◌*◌, ◌^◌, ◌<◌, ◌≤◌, Bool, true, false, cond, ◌&&◌, eqb, ltb, leb, ◌⊎◌, List, [], ◌∷◌, ◌++◌, length, get_or, take, drop, IfSome, Some, None, Option, sym, refl, ap, ◌∙◌, subst, inl, inr, lt_of_lt_of_le, mul-le-mul_right, mul-le-mul_left, pow-suc, arith, pow-add}
+use Rattle.std.proofs.Common.{◌≡◌, ℕ, suc, ◌+◌, ◌-◌, ◌*◌, ◌^◌, ◌<◌, ◌≤◌, Bool, true, false, cond, not, ◌&&◌, eqb, ltb, leb, List, [], ◌∷◌, ◌++◌, length, get_or, take, drop, IfSome, Some, None, Option, sym, refl, ap, ◌∙◌, subst, lt_of_lt_of_le, mul-le-mul_right, mul-le-mul_left, pow-suc, arith, pow-add}
 use native.Mathlib.Nat.{one-le-pow, pow-le-pow_right}
 use Rattle.std.proofs.lemmas.List.{at_drop_more, at_drop_all}
 use Rattle.std.proofs.lemmas.Int.Digits.{digits_value-lt}
-use Rattle.std.proofs.lemmas.Bool.{eq-eqb, ne_eqb, lt-ltb, le-ltb, le-leb, lt-leb, ltb-true, leb-true, and_parts, cond-true, cond-false}
+use Rattle.std.proofs.lemmas.Bool.{lt-ltb, le-ltb, le-leb, ltb-true, leb-true, and_parts}
 use Rattle.std.specs.Str.Parse.{AllDigits, digits_value, digits_value_after}
 use Rattle.std.specs.Char.{digit_value}
+use Rattle.std.specs.List.{before_first, after_first}
 use Rattle.number_text.specs.Number.{digits_below, numeral, before, after}
 
 -- ---- before and after a byte
--- The count of the bytes passed, with those before the byte in what is left.
-pub find_here : (c : ℕ) (bs : List ℕ) (i : ℕ) → i < length bs → get_or bs i 0 ≡ c → i + length (before c (drop i bs)) ≡ length (before c bs) → i ≡ length (before c bs)
-find_here c bs i h e inv =
-    let d : length (before c (drop i bs)) ≡ 0 = at_drop_more (λ l. length (before c l)) bs i 0 h ∙ ap length (cond-true (eqb (get_or bs i 0) c) [] (get_or bs i 0 ∷ before c (drop (i + 1) bs)) (eq-eqb _ c e)) in
-    omega arith
+take-first : (c b : ℕ) (bs : List ℕ) (n : ℕ) (t : Bool) → take n bs ≡ before c bs → take (cond (not t) (1 + n) 0) (b ∷ bs) ≡ cond t [] (b ∷ before c bs)
+take-first c b bs n true e = refl
+take-first c b bs n false e = let on : 1 + n ≡ suc n = omega arith in ap (λ k. take k (b ∷ bs)) on ∙ ap (λ l. b ∷ l) e
 
-pub find_step : (c : ℕ) (bs : List ℕ) (i : ℕ) → i < length bs → (get_or bs i 0 ≡ c → ⊥) → i + length (before c (drop i bs)) ≡ length (before c bs) → i + 1 + length (before c (drop (i + 1) bs)) ≡ length (before c bs)
-find_step c bs i h e inv =
-    let d : length (before c (drop i bs)) ≡ suc (length (before c (drop (i + 1) bs))) =
-    at_drop_more (λ l. length (before c l)) bs i 0 h ∙ ap length (cond-false (eqb (get_or bs i 0) c) [] (get_or bs i 0 ∷ before c (drop (i + 1) bs)) (ne_eqb _ c e)) in
-    omega arith
+pub before-first : (c : ℕ) (bs : List ℕ) → before_first (λ b. eqb b c) bs ≡ before c bs
+before-first c [] = refl
+before-first c (b ∷ bs) = take-first c b bs _ (eqb b c) (before-first c bs)
 
-before-by : (c b : ℕ) (bs : List ℕ) (t : Bool) → take (length (before c bs)) bs ≡ before c bs → take (length (cond t [] (b ∷ before c bs))) (b ∷ bs) ≡ cond t [] (b ∷ before c bs)
-before-by c b bs true e = refl
-before-by c b bs false e = ap (λ l. b ∷ l) e
+drop-first : (c b : ℕ) (bs : List ℕ) (n : ℕ) (t : Bool) → drop (n + 1) bs ≡ after c bs → drop (cond (not t) (1 + n) 0 + 1) (b ∷ bs) ≡ cond t bs (after c bs)
+drop-first c b bs n true e = refl
+drop-first c b bs n false e = let on : 1 + n + 1 ≡ suc (n + 1) = omega arith in ap (λ k. drop k (b ∷ bs)) on ∙ e
 
-pub take-before : (c : ℕ) (bs : List ℕ) → take (length (before c bs)) bs ≡ before c bs
-take-before c [] = refl
-take-before c (b ∷ bs) = before-by c b bs (eqb b c) (take-before c bs)
-
-after-by : (c b : ℕ) (bs : List ℕ) (t : Bool) → drop (suc (length (before c bs))) bs ≡ after c bs → drop (suc (length (cond t [] (b ∷ before c bs)))) (b ∷ bs) ≡ cond t bs (after c bs)
-after-by c b bs true e = refl
-after-by c b bs false e = e
-
-pub drop-before : (c : ℕ) (bs : List ℕ) → drop (suc (length (before c bs))) bs ≡ after c bs
-drop-before c [] = refl
-drop-before c (b ∷ bs) = after-by c b bs (eqb b c) (drop-before c bs)
+pub after-first : (c : ℕ) (bs : List ℕ) → after_first (λ b. eqb b c) bs ≡ after c bs
+after-first c [] = refl
+after-first c (b ∷ bs) = drop-first c b bs _ (eqb b c) (after-first c bs)
 
 -- ---- digits read from the left
 -- `number` is what the digits of ds before place i spell after `start`: what is left gives the same.
@@ -49,31 +38,40 @@ read-begun radix start ds h =
     let e : length ds ≡ length ds - 0 = omega arith in
     record { same = refl; good = refl; room = subst (λ n. (start + 1) * radix ^ n ≤ 2 ^ 60) e h }
 
-module _ (radix start : ℕ) (ds : List ℕ) (i number : ℕ) (h : i < length ds) (r : Read radix start ds i number) where
-  pub read_bad : radix ≤ digit_value (get_or ds i 0) → digits_below radix ds ≡ false
-  read_bad d = sym r.good ∙ at_drop_more (digits_below radix) ds i 0 h ∙ ap (λ t. t && digits_below radix (drop (i + 1) ds)) (le-ltb _ radix d)
+-- the byte b at place i, which is no digit, or the digit d; x and y are the radix and d as the code has them
+module _ (radix start : ℕ) (ds : List ℕ) (i number : ℕ) (h : i < length ds) (r : Read radix start ds i number) (b : ℕ) (is : b ≡ get_or ds i 0) where
+  pub read_bad : (digit_value b < radix → ⊥) → None ≡ cond (digits_below radix ds) (Some (digits_value_after radix start ds)) None
+  read_bad high =
+      let none : ltb (digit_value (get_or ds i 0)) radix ≡ false = subst (λ c. ltb (digit_value c) radix ≡ false) is (le-ltb _ radix (omega (arith, high))) in
+      let bad : digits_below radix ds ≡ false = sym r.good ∙ at_drop_more (digits_below radix) ds i 0 h ∙ ap (λ t. t && digits_below radix (drop (i + 1) ds)) none in
+      sym (ap (λ t. cond t (Some (digits_value_after radix start ds)) None) bad)
 
-  wider : digit_value (get_or ds i 0) < radix → (number * radix + digit_value (get_or ds i 0) + 1) * radix ^ (length ds - (i + 1)) ≤ 2 ^ 60
-  wider d =
-      let p = radix ^ (length ds - (i + 1)) in
-      let e : length ds - i ≡ suc (length ds - (i + 1)) = omega arith in
-      let q : radix ^ (length ds - i) ≡ p * radix = ap (λ n. radix ^ n) e ∙ pow-suc radix (length ds - (i + 1)) in
-      let k : number * radix + digit_value (get_or ds i 0) + 1 ≤ (number + 1) * radix = omega arith in
-      let m = mul-le-mul_right p k in
-      let o : (number + 1) * (p * radix) ≤ 2 ^ 60 = subst (λ x. (number + 1) * x ≤ 2 ^ 60) q r.room in
-      omega arith
+  module _ (d x y : ℕ) (digit : (digit_value b < radix) × (d ≡ digit_value b)) (x-is : x ≡ radix) (y-is : y ≡ d) where
+    below : digit_value (get_or ds i 0) < radix
+    below = subst (λ c. digit_value c < radix) is digit.0
 
-  pub read_step : digit_value (get_or ds i 0) < radix → Read radix start ds (i + 1) (number * radix + digit_value (get_or ds i 0))
-  read_step d = record {
-    same = sym (at_drop_more (digits_value_after radix number) ds i 0 h) ∙ r.same;
-    good = ap (λ t. t && digits_below radix (drop (i + 1) ds)) (sym (lt-ltb _ radix d)) ∙ sym (at_drop_more (digits_below radix) ds i 0 h) ∙ r.good;
-    room = wider d;
-  }
+    next : number * x + y ≡ number * radix + digit_value (get_or ds i 0)
+    next = (λ j. number * x-is j + (y-is ∙ digit.1 ∙ ap digit_value is) j)
 
-  pub read_fits : digit_value (get_or ds i 0) < radix → number * radix + digit_value (get_or ds i 0) < 2 ^ 60
-  read_fits d =
-      let m = mul-le-mul_left (number * radix + digit_value (get_or ds i 0) + 1) (one-le-pow (length ds - (i + 1)) radix (omega arith)) in
-      omega (arith, wider d)
+    wider : (number * x + y + 1) * radix ^ (length ds - (i + 1)) ≤ 2 ^ 60
+    wider =
+        let p = radix ^ (length ds - (i + 1)) in
+        let e : length ds - i ≡ suc (length ds - (i + 1)) = omega arith in
+        let q : radix ^ (length ds - i) ≡ p * radix = ap (λ n. radix ^ n) e ∙ pow-suc radix (length ds - (i + 1)) in
+        let k : number * x + y + 1 ≤ (number + 1) * radix = omega (arith, next, below) in
+        let m = mul-le-mul_right p k in
+        let o : (number + 1) * (p * radix) ≤ 2 ^ 60 = subst (λ z. (number + 1) * z ≤ 2 ^ 60) q r.room in
+        omega arith
+
+    pub read_step : Read radix start ds (i + 1) (number * x + y)
+    read_step = record {
+      same = ap (λ n. digits_value_after radix n (drop (i + 1) ds)) next ∙ sym (at_drop_more (digits_value_after radix number) ds i 0 h) ∙ r.same;
+      good = ap (λ t. t && digits_below radix (drop (i + 1) ds)) (sym (lt-ltb _ radix below)) ∙ sym (at_drop_more (digits_below radix) ds i 0 h) ∙ r.good;
+      room = wider;
+    }
+
+    pub read_fits : number * x + y < 2 ^ 60
+    read_fits = let m = mul-le-mul_left (number * x + y + 1) (one-le-pow (length ds - (i + 1)) radix (omega (arith, below))) in omega (arith, wider)
 
 pub read_all : (radix start : ℕ) (ds : List ℕ) (i number : ℕ) → length ds ≤ i → Read radix start ds i number → Some number ≡ cond (digits_below radix ds) (Some (digits_value_after radix start ds)) None
 read_all radix start ds i number h r =
@@ -138,19 +136,3 @@ pub joined-good : (radix : ℕ) (xs ys : List ℕ) → digits_below radix xs ≡
 joined-good radix xs ys h = sym (
     ap (λ t. cond t (Some (digits_value radix (xs ++ ys))) None) (below_append radix xs ys ∙ ap (λ t. t && digits_below radix ys) h)
     ∙ ap (λ n. cond (digits_below radix ys) (Some n) None) (after_append radix 0 xs ys))
-
-pub no_numeral : (radix most : ℕ) (ds : List ℕ) → (length ds ≡ 0) ⊎ (most < length ds) → None ≡ numeral radix most ds
-no_numeral radix most ds (inl h) = sym (ap (λ t. cond (t && leb (length ds) most && digits_below radix ds) (Some (digits_value radix ds)) None) (le-ltb 0 (length ds) (omega arith)))
-no_numeral radix most ds (inr h) = sym (ap (λ t. cond (ltb 0 (length ds) && t && digits_below radix ds) (Some (digits_value radix ds)) None) (lt-leb (length ds) most h) ∙ by (ltb 0 (length ds)))
-  where
-    by : (t : Bool) → cond (t && false && digits_below radix ds) (Some (digits_value radix ds)) None ≡ None
-    by true = refl
-    by false = refl
-
-pub before-length : (c : ℕ) (bs : List ℕ) → length (before c bs) ≤ length bs
-before-length c [] = omega arith
-before-length c (b ∷ bs) = by (eqb b c) (before-length c bs)
-  where
-    by : (t : Bool) → length (before c bs) ≤ length bs → length (cond t [] (b ∷ before c bs)) ≤ length (b ∷ bs)
-    by true h = omega arith
-    by false h = omega arith

@@ -199,11 +199,12 @@ module _ (f : Format) (s : Bool) (q k : ℕ) (u : HeldUnits f q k) where
       ∙ add_assoc c (d * hid f) (q * 2 ^ k / 2 ^ d)
       ∙ ap (λ y. c + y) (kept (prec f) q k (two-le_pos (prec f) (two f)) u.digits u.normal)
 
-  pub units-pattern : of_bits f (cond s (top f) 0 + (k * hid f + q)) ≡ in_units f s q k
-  units-pattern = ap (of_bits f) (sym to_bits-units) ∙ of_bits-to_bits f (in_units f s q k) units-fit
+  module _ (b : ℕ) (b-is : b ≡ cond s (top f) 0 + (k * hid f + q)) where
+    pub units-pattern : of_bits f b ≡ in_units f s q k
+    units-pattern = ap (of_bits f) (b-is ∙ sym to_bits-units) ∙ of_bits-to_bits f (in_units f s q k) units-fit
 
-  pub units_no_nan : T (not (nan_bits f (cond s (top f) 0 + (k * hid f + q))))
-  units_no_nan = subst (λ b. T (not b)) (sym (nan_bits_is f (cond s (top f) 0 + (k * hid f + q)) ∙ ap is_nan units-pattern ∙ odd_no_nan 64 s q k (low f))) tt
+    pub units_no_nan : T (not (nan_bits f b))
+    units_no_nan = subst (λ t. T (not t)) (sym (nan_bits_is f b ∙ ap is_nan units-pattern ∙ odd_no_nan 64 s q k (low f))) tt
 
 -- ---- what a pattern says of a finite value
 finite_field : (f : Format) (s : Bool) (y t : ℕ) → T (finite (of_fields f s (suc y) t)) → (suc y ≡ ones f → ⊥) × (of_fields f s (suc y) t ≡ odd (prec f) s (hid f + t) y (low f))
@@ -248,19 +249,28 @@ of_bits_fields : (f : Format) (b : ℕ) → of_bits f b ≡ of_fields f (leb (to
 unfolding of_bits
 of_bits_fields f b = refl
 
-module _ (f : Format) (x : Float) (q : T (fits f x)) where
-  is-pattern : x ≡ of_fields f (leb (top f) (to_bits f x)) (to_bits f x % top f / hid f) (to_bits f x % hid f)
-  is-pattern = sym (of_bits-to_bits f x q) ∙ of_bits_fields f (to_bits f x)
+pub has_pattern : (f : Format) (x : Float) → T (fits f x) → (b : ℕ) → b ≡ to_bits f x → x ≡ of_bits f b
+has_pattern f x q b e = sym (ap (of_bits f) e ∙ of_bits-to_bits f x q)
 
-  pub units-low : to_bits f x % top f / hid f ≡ 0 → IsUnits f x (leb (top f) (to_bits f x)) (to_bits f x % hid f) 0
-  units-low z = fields_low f x (leb (top f) (to_bits f x)) (to_bits f x % top f / hid f) (to_bits f x % hid f) (mod-lt (to_bits f x) (pow_pos (prec f - 1))) z is-pattern
+module _ (f : Format) (x : Float) (b : ℕ) (is : x ≡ of_bits f b) where
+  at_low : b % top f / hid f ≡ 0 → IsUnits f x (leb (top f) b) (b % hid f) 0
+  at_low z = fields_low f x (leb (top f) b) (b % top f / hid f) (b % hid f) (mod-lt b (pow_pos (prec f - 1))) z (is ∙ of_bits_fields f b)
 
-  pub units-high : (to_bits f x % top f / hid f ≡ 0 → ⊥) → T (finite x) → IsUnits f x (leb (top f) (to_bits f x)) (hid f + to_bits f x % hid f) (to_bits f x % top f / hid f - 1)
-  units-high z n =
-      let b = to_bits f x in
+  at_high : (b % top f / hid f ≡ 0 → ⊥) → T (finite x) → IsUnits f x (leb (top f) b) (hid f + b % hid f) (b % top f / hid f - 1)
+  at_high z n =
       let H : 0 < hid f = pow_pos (prec f - 1) in
       let field : b % top f / hid f < suc (ones f) = (div-lt_iff_lt-mul H).1 (subst (λ m. b % top f < m) (mul_comm (hid f) (suc (ones f))) (mod-lt b (mul-pos H (zero-lt-suc (ones f))))) in
-      fields_high f x (leb (top f) b) (b % top f / hid f) (b % hid f) (mod-lt b H) z (le_of_suc-le-suc field) n is-pattern
+      fields_high f x (leb (top f) b) (b % top f / hid f) (b % hid f) (mod-lt b H) z (le_of_suc-le-suc field) n (is ∙ of_bits_fields f b)
+
+  -- with what the code has for the sign's bit and the field's weight
+  module _ (t h : ℕ) (t-is : t ≡ top f) (h-is : h ≡ hid f) where
+    pub units-low : b % t / h ≡ 0 → IsUnits f x (leb t b) (b % h) 0
+    units-low = subst (λ u. b % u / h ≡ 0 → IsUnits f x (leb u b) (b % h) 0) (sym t-is) (subst (λ v. b % top f / v ≡ 0 → IsUnits f x (leb (top f) b) (b % v) 0) (sym h-is) at_low)
+
+    pub units-high : (b % t / h ≡ 0 → ⊥) → T (finite x) → IsUnits f x (leb t b) (h + b % h) (b % t / h - 1)
+    units-high =
+        subst (λ u. (b % u / h ≡ 0 → ⊥) → T (finite x) → IsUnits f x (leb u b) (h + b % h) (b % u / h - 1)) (sym t-is)
+        (subst (λ v. (b % top f / v ≡ 0 → ⊥) → T (finite x) → IsUnits f x (leb (top f) b) (v + b % v) (b % top f / v - 1)) (sym h-is) at_high)
 
 pub finite_no_nan : (x : Float) → T (finite x) → T (not (is_nan x))
 unfolding is_nan

@@ -1,13 +1,15 @@
 -- The decimal form: m / den rounded to a format, from whole numbers that keep as many digits as the format does.
-use Rattle.std.proofs.Common.{◌≡◌, ℕ, zero, suc, ◌+◌, ◌-◌, ◌*◌, ◌/◌, ◌%◌, ◌^◌, ◌<◌, ◌≤◌, Bool, cond, pos, sym, refl, ap, ◌∙◌, subst, le_trans, le_of_eq, lt_of_le_of_lt, mul-le-mul_right, mul_assoc, div-lt_iff_lt-mul, lt_of_mul-lt-mul_right, mul-lt-mul_of_pos_right, mul-pos, pow-suc, le-div_iff_mul-le, zero-mul, mul-one, le_of_mul-le-mul_right, mul_left_comm, arith, lit<, pow_pos, pow_mono, pow-add, shl_exact}
+use Rattle.std.proofs.Common.{◌≡◌, ℕ, suc, ltb, add-zero, mod-eq_of_lt, ◌+◌, ◌-◌, ◌*◌, ◌/◌, ◌%◌, ◌^◌, ◌<◌, ◌≤◌, Bool, cond, pos, sym, refl, ap, ◌∙◌, subst, ⊎_elim, le_trans, le_of_eq, lt_of_le_of_lt, mul-le-mul_right, mul_assoc, div-lt_iff_lt-mul, lt_of_mul-lt-mul_right, mul-lt-mul_of_pos_right, mul-pos, pow-suc, le-div_iff_mul-le, zero-mul, le_of_mul-le-mul_right, mul_left_comm, arith, lit<, pow_pos, pow_mono, pow-add, shl_lt, shl_exact}
 use Prim.Native.Nat.{compare}
 use native.Mathlib.Nat.{pow-succ'}
+use mir.Val.{bool_byte}
+use lib.Count.{count_leading_zeros, leading_top}
 use lib.Pow.{pow-lt}
 use lib.Ieee.{Float, inf, fin, Format, binary32, binary64, prec, emax, low, hid, size, odd, units, round}
 use lib.Ieee.Fits.{core, round_is, two, two-le_pos, nearest-le}
 use lib.Ieee.Nearest.{closest, closest_same, nearest-ge}
 use lib.Ieee.Scale.{round_same}
-use Rattle.std.proofs.lemmas.Bool.{lt-ltb}
+use Rattle.std.proofs.lemmas.Bool.{cases_lt, lt-ltb, le-ltb}
 use Rattle.number_text.specs.Digits.{in_units, HeldUnits}
 use Rattle.number_text.proofs.Patterns.{odd-same, odd-zero, units_small, size_exact}
 use Rattle.number_text.proofs.Exactly.{prec_small}
@@ -16,13 +18,56 @@ emax_large : (f : Format) → 100 < emax f
 emax_large binary32 = omega arith
 emax_large binary64 = omega arith
 
--- ---- doubling
-pub doubling_left : (n k m place : ℕ) → 0 < m → n < 2 ^ 102 → 102 ≤ place → n * 2 ^ k ≡ m * 2 ^ place → 1 ≤ k
-doubling_left n zero m place M h p e = absurd (omega (arith, mul-one n, mul-le-mul_right (2 ^ place) M, pow_mono p))
-doubling_left n (suc k) m place M h p e = omega arith
+-- ---- m moved up to as many digits as a larger number has
+pow_below : (i j n : ℕ) → 2 ^ i ≤ n → n < 2 ^ j → i < j
+pow_below i j n lo hi = ⊎_elim (λ h. h) (λ h. absurd (omega (arith, pow_mono h))) (cases_lt i j)
 
-pub doubling_step : (n k : ℕ) → 1 ≤ k → n * 2 * 2 ^ (k - 1) ≡ n * 2 ^ k
-doubling_step n k h = let e : k ≡ suc (k - 1) = omega arith in sym (ap (λ x. n * x) (ap (λ x. 2 ^ x) e ∙ pow-succ' 2 (k - 1)) ∙ sym (mul_assoc n 2 (2 ^ (k - 1))))
+module _ (m full : ℕ) (M : 0 < m) (h : m < full) (F : full < 2 ^ 102) where
+  abbrev level : ℕ
+  level = count_leading_zeros 128 m - count_leading_zeros 128 full
+
+  pub levelled : (count_leading_zeros 128 full ≤ count_leading_zeros 128 m) × (level < 102) × (m * 2 ^ level < 2 * full) × (full < 2 * (m * 2 ^ level))
+  levelled =
+      let a = leading_top 128 m M (omega arith) in
+      let b = leading_top 128 full (omega arith) (omega arith) in
+      let below : a.0 < suc b.0 = pow_below a.0 (suc b.0) full (omega arith) b.3 in
+      let short : b.0 < 102 = pow_below b.0 102 full b.2 F in
+      let d : level ≡ b.0 - a.0 = omega arith in
+      let e : a.0 + (b.0 - a.0) ≡ b.0 = omega arith in
+      let lo : 2 ^ b.0 ≤ m * 2 ^ level = subst (λ x. 2 ^ x ≤ m * 2 ^ level) e (subst (λ x. 2 ^ (a.0 + x) ≤ m * 2 ^ level) d (subst (λ x. x ≤ m * 2 ^ level) (sym (pow-add 2 a.0 level)) (mul-le-mul_right (2 ^ level) a.2))) in
+      let hi : m * 2 ^ level < 2 ^ suc b.0 = subst (λ x. m * 2 ^ level < 2 ^ x) (omega arith) (shl_lt (suc a.0) level a.3) in
+      let p = pow-suc 2 b.0 in
+      (omega arith, omega arith, omega arith, omega arith)
+
+  -- and by one more if it is still less
+  module _ (t place : ℕ) (e : t ≡ bool_byte (ltb (m * 2 ^ level % 2 ^ 128) full)) (P : 102 ≤ place) where
+    whole : m * 2 ^ level % 2 ^ 128 ≡ m * 2 ^ level
+    whole = mod-eq_of_lt (omega (arith, levelled))
+
+    pub doubled : (level + t ≤ 102) × (full ≤ m * 2 ^ (level + t)) × (m * 2 ^ (level + t) < 2 * full)
+    doubled = ⊎_elim less enough (cases_lt (m * 2 ^ level) full)
+      where
+        less : m * 2 ^ level < full → (level + t ≤ 102) × (full ≤ m * 2 ^ (level + t)) × (m * 2 ^ (level + t) < 2 * full)
+        less l =
+            let one : t ≡ 1 = e ∙ ap (λ x. bool_byte (ltb x full)) whole ∙ ap bool_byte (lt-ltb _ full l) in
+            let twice : m * 2 ^ (level + t) ≡ 2 * (m * 2 ^ level) = ap (λ x. m * 2 ^ (level + x)) one ∙ ap (λ x. m * x) (pow-add 2 level 1) ∙ omega arith in
+            (omega (arith, levelled), omega (arith, levelled), omega arith)
+
+        enough : full ≤ m * 2 ^ level → (level + t ≤ 102) × (full ≤ m * 2 ^ (level + t)) × (m * 2 ^ (level + t) < 2 * full)
+        enough l =
+            let none : t ≡ 0 = e ∙ ap (λ x. bool_byte (ltb x full)) whole ∙ ap bool_byte (le-ltb _ full l) in
+            let same : m * 2 ^ (level + t) ≡ m * 2 ^ level = ap (λ x. m * 2 ^ (level + x)) none ∙ ap (λ x. m * 2 ^ x) (add-zero level) in
+            (omega (arith, levelled), omega arith, omega (arith, levelled))
+
+    pub shifted : (full ≤ m * 2 ^ (level + t) % 2 ^ 128) × (m * 2 ^ (level + t) % 2 ^ 128 < 2 * full) × (m * 2 ^ (level + t) % 2 ^ 128 * 2 ^ (place - (level + t)) ≡ m * 2 ^ place) × (place - (level + t) ≤ place)
+    shifted =
+        let fits : m * 2 ^ (level + t) % 2 ^ 128 ≡ m * 2 ^ (level + t) = mod-eq_of_lt (omega (arith, doubled)) in
+        let sum : level + t + (place - (level + t)) ≡ place = omega (arith, doubled) in (
+          omega (arith, doubled),
+          omega (arith, doubled),
+          ap (λ x. x * 2 ^ (place - (level + t))) fits ∙ mul_assoc m (2 ^ (level + t)) (2 ^ (place - (level + t))) ∙ ap (λ x. m * x) (sym (pow-add 2 (level + t) (place - (level + t))) ∙ ap (λ x. 2 ^ x) sum),
+          omega arith,
+        )
 
 units-held : (f : Format) (s : Bool) (q k : ℕ) → HeldUnits f q k → units f s q k ≡ in_units f s q k
 unfolding units
@@ -106,11 +151,22 @@ module _ (f : Format) (m den n k spare : ℕ) (D : 0 < den) (B : den ≤ 10 ^ 15
     place-low : prec f + k ≤ low f + 53
     place-low = omega (arith, prec_small f)
 
-    pub shifted_held : HeldUnits f (closest n (den * 2 ^ spare % 2 ^ 128)) k
+    shifted_held : HeldUnits f (closest n (den * 2 ^ spare % 2 ^ 128)) k
     shifted_held = quotient-held f s m den n (den * 2 ^ spare % 2 ^ 128) k D unit-pos unit-same (unit-low lo) (unit-high hi) place-low
 
-    pub shifted_is : (x : Float) → x ≡ in_units f s (closest n (den * 2 ^ spare % 2 ^ 128)) k → x ≡ round f s m den
+    shifted_is : (x : Float) → x ≡ in_units f s (closest n (den * 2 ^ spare % 2 ^ 128)) k → x ≡ round f s m den
     shifted_is = quotient_is f s m den n (den * 2 ^ spare % 2 ^ 128) k D unit-pos unit-same (unit-low lo) (unit-high hi) place-low
+
+-- p, l and q are the format's digits, its low and the quotient as the code has them
+module _ (f : Format) (s : Bool) (m den p l n k q : ℕ) (P : p ≡ prec f) (L : l ≡ low f) (D : 0 < den) (B : den ≤ 10 ^ 15) (d : (den * 2 ^ 52 % 2 ^ 128 ≤ n) × (n < 2 * (den * 2 ^ 52 % 2 ^ 128)) × (n * 2 ^ k ≡ m * 2 ^ (l + (53 - p))) × (k ≤ l + (53 - p))) (Q : q ≡ closest n (den * 2 ^ (53 - p) % 2 ^ 128)) where
+  same-low : n * 2 ^ k ≡ m * 2 ^ (low f + (53 - p))
+  same-low = d.2 ∙ ap (λ x. m * 2 ^ (x + (53 - p))) L
+
+  pub rounded_held : HeldUnits f q k
+  rounded_held = subst (λ x. HeldUnits f x k) (sym Q) (shifted_held f m den n k (53 - p) D B (ap (λ x. 53 - x) P) same-low s d.0 d.1 (omega (arith, L, d.3)))
+
+  pub rounded_is : (x : Float) → x ≡ in_units f s q k → x ≡ round f s m den
+  rounded_is x e = shifted_is f m den n k (53 - p) D B (ap (λ x. 53 - x) P) same-low s d.0 d.1 (omega (arith, L, d.3)) x (e ∙ ap (λ y. in_units f s y k) Q)
 
 -- ---- zero
 round-zero : (f : Format) (s : Bool) → round f s 0 1 ≡ fin s 0 (pos 0)

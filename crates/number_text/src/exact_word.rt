@@ -3,7 +3,7 @@ ghost use Rattle.std.specs.Prelude.{◌≡◌, ◌^◌, ◌<◌};
 ghost use Rattle.number_text.specs.Number.{value_read, exactly, exact_number};
 
 use crate::digits::Digits;
-use crate::numeral::{after_byte, before_byte, is_negative, read_numeral, without_sign};
+use crate::numeral::{read_numeral, split_at_byte, split_sign};
 use crate::refusal::NumberRefusal;
 
 // m 2^up / 2^down. What is left of m without its trailing zeros has to be a whole number of the format's least value,
@@ -20,11 +20,9 @@ fn exact_value<R: Digits>(negative: bool, m: u64, up: u32, down: u32) -> Result<
     let zeros = m.trailing_zeros();
     let whole = m >> zeros;
     let digits = 64 - whole.leading_zeros();
-    let above = up + zeros + low;
-    if above < down {
-        return Err(NumberRefusal::NotANumber);
-    }
-    let place = above - down;
+    let place = (up + zeros + low)
+        .checked_sub(down)
+        .ok_or(NumberRefusal::NotANumber)?;
     if digits > precision || digits + place > 2 * low + 3 - precision {
         return Err(NumberRefusal::NotANumber);
     }
@@ -36,16 +34,14 @@ fn exact_value<R: Digits>(negative: bool, m: u64, up: u32, down: u32) -> Result<
 pub fn read_exact<R: Digits>(negative: bool, text: &[u8]) -> Result<R, NumberRefusal>
     ensures { value_read R.Real.val result ≡ exact_number R.Real.format negative text.now }
 {
-    let Some(whole) = read_numeral(16, 14, before_byte(b'p', text)) else {
-        return Err(NumberRefusal::NotANumber);
-    };
-    let power = after_byte(b'p', text);
-    let Some(size) = read_numeral(10, 4, without_sign(power)) else {
-        return Err(NumberRefusal::NotANumber);
-    };
-    if is_negative(power) {
-        exact_value(negative, whole, 0, size as u32)
+    let (whole, power) = split_at_byte(b'p', text);
+    let whole = read_numeral(16, 14, whole).ok_or(NumberRefusal::NotANumber)?;
+    let (below, size) = split_sign(power);
+    // `as`, as lib.rt says.
+    let size = read_numeral(10, 4, size).ok_or(NumberRefusal::NotANumber)? as u32;
+    if below {
+        exact_value(negative, whole, 0, size)
     } else {
-        exact_value(negative, whole, size as u32, 0)
+        exact_value(negative, whole, size, 0)
     }
 }

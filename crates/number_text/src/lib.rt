@@ -1,4 +1,5 @@
-// Texts of numbers: one word read as a value of an element type, and a value printed exactly.
+// Texts of numbers: one word read as a value of an element type, and a value printed exactly. A cast by `as` stands only
+// where it narrows: it is proved to lose nothing, where `TryFrom` would add a failure that never comes.
 #![tactic(auto)]
 
 mod binary32;

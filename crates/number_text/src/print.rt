@@ -1,5 +1,5 @@
 // Printing: the exact text of a value, appended to bytes.
-ghost use Rattle.std.specs.Prelude.{◌≡◌, ◌<◌, ◌≤◌, false, T, ◌++◌, drop, OnOk};
+ghost use Rattle.std.specs.Prelude.{◌≡◌, ◌<◌, ◌≤◌, false, T, ◌++◌, OnOk};
 ghost use Rattle.std.specs.Float.Ieee.{minus};
 ghost use Rattle.std.specs.Float.Ieee.Scale.{finite};
 ghost use Rattle.std.specs.Fmt.{digit_glyph as glyph_of, digits as digits_of, sign_text as sign_of, signed_decimal};
@@ -9,7 +9,8 @@ use crate::digits::Digits;
 use crate::refusal::PrintRefusal;
 use std::alloc::AllocError;
 
-// The lower-case digit of d.
+// The lower-case digit of d, cast by `as`, as lib.rt says; std's `from_digit` answers an Option of a char, with nothing to
+// do for the None.
 fn glyph(d: u64) -> u8
     requires { d < 16 }
     ensures { result ≡ glyph_of false d }
@@ -21,32 +22,30 @@ fn glyph(d: u64) -> u8
     }
 }
 
-// Puts the digits of n at the end of the buffer, and answers where they begin.
-fn spell(n: u64, base: u64, buffer: &mut [u8; 64]) -> usize
+// The digits of n, which stand at the end of the buffer. That `format!` writes them was tried: it proves, but takes
+// twice as long for the text of 16,000 numbers, into a String with room for one, and more where the String has to grow.
+fn spell(n: u64, base: u64, buffer: &mut [u8; 64]) -> &[u8]
     requires { (2 ≤ base) × (base ≤ 16) }
-    ensures bound { result ≤ 64 }
-    ensures value { drop result buffer.new ≡ digits_of base false n }
+    ensures { result.now ≡ digits_of base false n }
 {
-    let mut i = 64;
     let mut rest = n;
-    while i > 0 {
-        i -= 1;
+    // The writes go by index: of what `buffer.iter_mut().rev()` lends a proof knows only the length.
+    for i in (0..64).rev() {
         buffer[i] = glyph(rest % base);
         rest /= base;
         if rest == 0 {
-            break;
+            return &buffer[i..];
         }
     }
-    i
+    buffer
 }
 
+// By hand, as the four functions below, for the reason at `spell`.
 fn push_digits(base: u64, n: u64, out: &mut Vec<u8>) -> Result<(), AllocError>
     requires { (2 ≤ base) × (base ≤ 16) }
     ensures { OnOk result (out.new.items ≡ out.old.items ++ digits_of base false n) }
 {
-    let mut buffer = [0u8; 64];
-    let start = spell(n, base, &mut buffer);
-    out.extend_from_slice(&buffer[start..64])
+    out.extend_from_slice(spell(n, base, &mut [0; 64]))
 }
 
 // Appends a whole number in decimal digits.
@@ -69,11 +68,8 @@ fn push_sign(negative: bool, out: &mut Vec<u8>) -> Result<(), AllocError>
 fn push_power(above: u32, below: u32, out: &mut Vec<u8>) -> Result<(), AllocError>
     ensures { OnOk result (out.new.items ≡ out.old.items ++ signed_decimal (minus above below)) }
 {
-    if below <= above {
-        return push_digits(10, (above - below) as u64, out);
-    }
-    out.push(b'-')?;
-    push_digits(10, (below - above) as u64, out)
+    push_sign(above < below, out)?;
+    push_digits(10, u64::from(above.abs_diff(below)), out)
 }
 
 // The text of m 2^(above - below).

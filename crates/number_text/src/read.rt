@@ -5,20 +5,16 @@ ghost use Rattle.number_text.specs.Number.{value_read, number_of, unsigned_numbe
 use crate::decimal::read_decimal;
 use crate::digits::Digits;
 use crate::exact_word::read_exact;
-use crate::numeral::{is_negative, without_sign};
+use crate::numeral::split_sign;
 use crate::refusal::NumberRefusal;
 
 // A word without its sign, in the exact form if it begins with `0x`.
 fn read_unsigned<R: Digits>(negative: bool, word: &[u8]) -> Result<R, NumberRefusal>
     ensures { value_read R.Real.val result ≡ unsigned_number R.Real.format negative word.now }
 {
-    let [first, second, rest @ ..] = word else {
-        return read_decimal(negative, word);
-    };
-    if *first == b'0' && *second == b'x' {
-        read_exact(negative, rest)
-    } else {
-        read_decimal(negative, word)
+    match word.strip_prefix(b"0x") {
+        Some(rest) => read_exact(negative, rest),
+        None => read_decimal(negative, word),
     }
 }
 
@@ -26,5 +22,6 @@ fn read_unsigned<R: Digits>(negative: bool, word: &[u8]) -> Result<R, NumberRefu
 pub fn read_number<R: Digits>(word: &[u8]) -> Result<R, NumberRefusal>
     ensures { value_read R.Real.val result ≡ number_of R.Real.format word.now }
 {
-    read_unsigned(is_negative(word), without_sign(word))
+    let (negative, unsigned) = split_sign(word);
+    read_unsigned(negative, unsigned)
 }

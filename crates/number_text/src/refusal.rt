@@ -29,6 +29,7 @@ pub enum PrintRefusal {
     Memory,
 }
 
+// By hand, since a derived `From` has no `from_gives`, which clauses name.
 impl From<AllocError> for PrintRefusal {
     ghost from_gives = { λ _ r. r ≡ Memory };
 

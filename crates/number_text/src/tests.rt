@@ -20,9 +20,9 @@ fn same<R: Digits>(rt: &impl Abort, heap: Global, word: &[u8], text: &[u8]) -> R
 
 // Each row: a word, and its text in binary64 and in binary32.
 fn all_same(rt: &impl Abort, heap: Global, rows: &[(&str, &str, &str)]) -> Result<(), Fail> {
-    for row in rows {
-        same::<f64>(rt, heap, row.0.as_bytes(), row.1.as_bytes())?;
-        same::<f32>(rt, heap, row.0.as_bytes(), row.2.as_bytes())?;
+    for (word, double, single) in rows {
+        same::<f64>(rt, heap, word.as_bytes(), double.as_bytes())?;
+        same::<f32>(rt, heap, word.as_bytes(), single.as_bytes())?;
     }
     Ok(())
 }

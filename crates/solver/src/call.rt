@@ -11,6 +11,7 @@ ghost use Rattle.model.specs.Promises.{FactorsNear, PivotsBounded, SolveBackward
 use crate::outcomes::Outcomes;
 use element::{Multiply, Real, outcome_number};
 
+// The answers are numbers, and no enums: the rules fix them, and `Outcomes` has the enums.
 pub trait Solver: Real {
     // Factors, order and answer of the system a x = b.
     fn solve(
@@ -47,52 +48,20 @@ pub trait Solver: Real {
         ensures near { result ≡ 0 → ProductsNear Self.Real.format n (map Self.Real.val a.now) (map Self.Real.val x.now) (map Self.Real.val y.new) };
 }
 
-impl Solver for f64 {
-    fn solve(
-        n: usize,
-        a: &[f64],
-        b: &[f64],
-        lu: &mut [f64],
-        order: &mut [u16],
-        x: &mut [f64],
-    ) -> u32 {
-        outcome_number(<f64 as Outcomes>::solve_outcome(n, a, b, lu, order, x))
+impl<R: Real> Solver for R {
+    fn solve(n: usize, a: &[R], b: &[R], lu: &mut [R], order: &mut [u16], x: &mut [R]) -> u32 {
+        outcome_number(<R as Outcomes>::solve_outcome(n, a, b, lu, order, x))
     }
 
-    fn factor(n: usize, a: &[f64], lu: &mut [f64], order: &mut [u16]) -> u32 {
-        outcome_number(<f64 as Outcomes>::factor_outcome(n, a, lu, order))
+    fn factor(n: usize, a: &[R], lu: &mut [R], order: &mut [u16]) -> u32 {
+        outcome_number(<R as Outcomes>::factor_outcome(n, a, lu, order))
     }
 
-    fn again(n: usize, lu: &[f64], order: &[u16], b: &[f64], x: &mut [f64]) -> u32 {
-        outcome_number(<f64 as Outcomes>::again_outcome(n, lu, order, b, x))
+    fn again(n: usize, lu: &[R], order: &[u16], b: &[R], x: &mut [R]) -> u32 {
+        outcome_number(<R as Outcomes>::again_outcome(n, lu, order, b, x))
     }
 
-    fn multiply(n: usize, a: &[f64], x: &[f64], y: &mut [f64]) -> u32 {
-        outcome_number(<f64 as Multiply>::multiply(n, a, x, y))
-    }
-}
-
-impl Solver for f32 {
-    fn solve(
-        n: usize,
-        a: &[f32],
-        b: &[f32],
-        lu: &mut [f32],
-        order: &mut [u16],
-        x: &mut [f32],
-    ) -> u32 {
-        outcome_number(<f32 as Outcomes>::solve_outcome(n, a, b, lu, order, x))
-    }
-
-    fn factor(n: usize, a: &[f32], lu: &mut [f32], order: &mut [u16]) -> u32 {
-        outcome_number(<f32 as Outcomes>::factor_outcome(n, a, lu, order))
-    }
-
-    fn again(n: usize, lu: &[f32], order: &[u16], b: &[f32], x: &mut [f32]) -> u32 {
-        outcome_number(<f32 as Outcomes>::again_outcome(n, lu, order, b, x))
-    }
-
-    fn multiply(n: usize, a: &[f32], x: &[f32], y: &mut [f32]) -> u32 {
-        outcome_number(<f32 as Multiply>::multiply(n, a, x, y))
+    fn multiply(n: usize, a: &[R], x: &[R], y: &mut [R]) -> u32 {
+        outcome_number(<R as Multiply>::multiply(n, a, x, y))
     }
 }

@@ -10,6 +10,7 @@ use factor::factor_matrix;
 use model::{AgainRefusal, FactorRefusal, SolveRefusal};
 use triangular::again_with;
 
+// A work row is an array, since the numeric crates take no heap.
 pub trait Outcomes: Real {
     // Factors, order and answer of the system a x = b.
     fn solve_outcome(
@@ -51,23 +52,23 @@ pub trait Outcomes: Real {
         ensures stable { OnOk result (AgainBackwardStable Self.Real.format n (map Self.Real.val lu.now) order.now (map Self.Real.val b.now) (map Self.Real.val x.new)) };
 }
 
-impl Outcomes for f64 {
+impl<R: Real> Outcomes for R {
     fn solve_outcome(
         n: usize,
-        a: &[f64],
-        b: &[f64],
-        lu: &mut [f64],
+        a: &[R],
+        b: &[R],
+        lu: &mut [R],
         order: &mut [u16],
-        x: &mut [f64],
+        x: &mut [R],
     ) -> Result<(), SolveRefusal> {
-        let mut work = [0.0f64; 128];
+        let mut work = [R::zero(); 128];
         solve_with(n, a, b, lu, order, x, &mut work)
     }
 
     fn factor_outcome(
         n: usize,
-        a: &[f64],
-        lu: &mut [f64],
+        a: &[R],
+        lu: &mut [R],
         order: &mut [u16],
     ) -> Result<(), FactorRefusal> {
         factor_matrix(n, a, lu, order)
@@ -75,46 +76,12 @@ impl Outcomes for f64 {
 
     fn again_outcome(
         n: usize,
-        lu: &[f64],
+        lu: &[R],
         order: &[u16],
-        b: &[f64],
-        x: &mut [f64],
+        b: &[R],
+        x: &mut [R],
     ) -> Result<(), AgainRefusal> {
-        let mut work = [0.0f64; 128];
-        again_with(n, lu, order, b, x, &mut work)
-    }
-}
-
-impl Outcomes for f32 {
-    fn solve_outcome(
-        n: usize,
-        a: &[f32],
-        b: &[f32],
-        lu: &mut [f32],
-        order: &mut [u16],
-        x: &mut [f32],
-    ) -> Result<(), SolveRefusal> {
-        let mut work = [0.0f32; 128];
-        solve_with(n, a, b, lu, order, x, &mut work)
-    }
-
-    fn factor_outcome(
-        n: usize,
-        a: &[f32],
-        lu: &mut [f32],
-        order: &mut [u16],
-    ) -> Result<(), FactorRefusal> {
-        factor_matrix(n, a, lu, order)
-    }
-
-    fn again_outcome(
-        n: usize,
-        lu: &[f32],
-        order: &[u16],
-        b: &[f32],
-        x: &mut [f32],
-    ) -> Result<(), AgainRefusal> {
-        let mut work = [0.0f32; 128];
+        let mut work = [R::zero(); 128];
         again_with(n, lu, order, b, x, &mut work)
     }
 }

@@ -1,39 +1,15 @@
 // The call `solve`: factors, order and answer of a system, for any element type.
-ghost use Rattle.std.specs.Prelude.{◌≡◌, ◌*◌, true, ◌&&◌, map, length, is_ok, Err, ◌==◌, ◌≢◌};
+ghost use Rattle.std.specs.Prelude.{◌≡◌, true, map, length, is_ok, OnOk, Err, ◌≢◌};
 ghost use Rattle.element.specs.declared.refusal.InputRefusal.{InputRefusal as Refusal};
-ghost use Rattle.element.specs.Matrix.{all_finite};
-ghost use Rattle.element.specs.Multiply.{inputs, size_taken};
 ghost use Rattle.model.specs.declared.FactorRefusal.TheVariants.{Input};
 ghost use Rattle.model.specs.declared.SolveRefusal.TheVariants.{Factoring};
 ghost use Rattle.model.specs.Calls.{solve_outcome, solve_lu, solve_order, solve_x};
+ghost use Rattle.model.specs.Promises.{SolveBackwardStable};
 
-use element::{InputRefusal, Real, all_finite};
+use element::{Matrix, Real, check_inputs};
 use factor::factor_into;
 use model::SolveRefusal;
-use triangular::{Order, substitute};
-
-// The size, then the lengths, then the entries; `l`, `o` and `m` are the lengths of the factors, the order and the answer.
-pub fn check_solve_inputs<R: Real>(
-    n: usize,
-    a: &[R],
-    b: &[R],
-    l: usize,
-    o: usize,
-    m: usize,
-) -> Result<(), InputRefusal>
-    ensures { result ≡ inputs (size_taken n) (length a.now == n * n && length b.now == n && l == n * n && o == n && m == n) (all_finite (map R.Real.val a.now) && all_finite (map R.Real.val b.now)) }
-{
-    if !((1 <= n) & (n <= 128)) {
-        return Err(InputRefusal::Size);
-    }
-    if !((a.len() == n * n) & (b.len() == n) & (l == n * n) & (o == n) & (m == n)) {
-        return Err(InputRefusal::Length);
-    }
-    if !(all_finite(a) & all_finite(b)) {
-        return Err(InputRefusal::Entry);
-    }
-    Ok(())
-}
+use triangular::{Factors, Order};
 
 // lu becomes the factors of a, order the row permutation and x the answer, which is found in the work row. A refusal leaves
 // x as it was; one of the inputs leaves lu and order too, and one at a column leaves the work up to there.
@@ -53,13 +29,18 @@ pub fn solve_with<R: Real>(
     ensures answer { map R.Real.val x.new ≡ solve_x R.Real.format n (map R.Real.val a.now) (map R.Real.val b.now) (length lu.old) (length order.old) (map R.Real.val x.old) }
     ensures kept { (is_ok result ≢ true) → x.new ≡ x.old }
     ensures untouched { (e : Refusal) → result ≡ Err (Factoring (Input e)) → (lu.new ≡ lu.old) × (order.new ≡ order.old) }
+    ensures stable { OnOk result (SolveBackwardStable R.Real.format n (map R.Real.val a.now) (map R.Real.val b.now) (map R.Real.val lu.new) order.new (map R.Real.val x.new)) }
 {
-    check_solve_inputs(n, a, b, lu.len(), order.len(), x.len())?;
+    check_inputs(
+        n,
+        &[a.len(), lu.len()],
+        &[b.len(), order.len(), x.len()],
+        &[a, b],
+    )?;
     factor_into(n, a, lu, order)?;
-    let rows = Order::new(order);
-    if !substitute(n, lu, &rows, b, &mut work[0..n]) {
-        return Err(SolveRefusal::Range);
-    }
-    x.copy_from_slice(&work[0..n]);
+    let factors = Factors::new(Matrix::new(n, lu), Order::new(order));
+    let answer = &mut work[..n];
+    factors.solve(b, answer)?;
+    x.copy_from_slice(answer);
     Ok(())
 }

@@ -11,47 +11,33 @@ const LARGE32: f32 = 1.8446744e19;
 const SMALL32: f32 = 5.421011e-20;
 
 // The number, and what is left in the factors, the order and the answer, which held 7, 9 and 8.
-fn solve64(n: usize, a: &[f64], b: &[f64]) -> (u32, [f64; 4], [u16; 2], [f64; 2]) {
-    let mut lu = [7.0f64; 4];
+fn solve<R: Solver + From<u8>>(n: usize, a: &[R], b: &[R]) -> (u32, [R; 4], [u16; 2], [R; 2]) {
+    let mut lu = [R::from(7u8); 4];
     let mut order = [9u16; 2];
-    let mut x = [8.0f64; 2];
-    let number = f64::solve(n, a, b, &mut lu, &mut order, &mut x);
-    (number, lu, order, x)
-}
-
-fn solve32(n: usize, a: &[f32], b: &[f32]) -> (u32, [f32; 4], [u16; 2], [f32; 2]) {
-    let mut lu = [7.0f32; 4];
-    let mut order = [9u16; 2];
-    let mut x = [8.0f32; 2];
-    let number = f32::solve(n, a, b, &mut lu, &mut order, &mut x);
+    let mut x = [R::from(8u8); 2];
+    let number = R::solve(n, a, b, &mut lu, &mut order, &mut x);
     (number, lu, order, x)
 }
 
 // The number, and what is left in the answer, which held 8.
-fn again64(n: usize, lu: &[f64], order: &[u16], b: &[f64]) -> (u32, [f64; 2]) {
-    let mut x = [8.0f64; 2];
-    let number = f64::again(n, lu, order, b, &mut x);
-    (number, x)
-}
-
-fn again32(n: usize, lu: &[f32], order: &[u16], b: &[f32]) -> (u32, [f32; 2]) {
-    let mut x = [8.0f32; 2];
-    let number = f32::again(n, lu, order, b, &mut x);
+fn again<R: Solver + From<u8>>(n: usize, lu: &[R], order: &[u16], b: &[R]) -> (u32, [R; 2]) {
+    let mut x = [R::from(8u8); 2];
+    let number = R::again(n, lu, order, b, &mut x);
     (number, x)
 }
 
 #[test]
 fn answers(rt: HostRuntime) {
     assert_eq!(rt;
-        solve64(2, &[2.0, 1.0, 4.0, 3.0], &[3.0, 7.0]),
+        solve::<f64>(2, &[2.0, 1.0, 4.0, 3.0], &[3.0, 7.0]),
         (0, [4.0, 3.0, 0.5, -0.5], [1, 0], [1.0, 1.0])
     );
     assert_eq!(rt;
-        solve32(2, &[2.0, 1.0, 4.0, 3.0], &[3.0, 7.0]),
+        solve::<f32>(2, &[2.0, 1.0, 4.0, 3.0], &[3.0, 7.0]),
         (0, [4.0, 3.0, 0.5, -0.5], [1, 0], [1.0, 1.0])
     );
     assert_eq!(rt;
-        solve64(2, &[0.0, 1.0, -1.0, 0.0], &[2.0, 3.0]),
+        solve::<f64>(2, &[0.0, 1.0, -1.0, 0.0], &[2.0, 3.0]),
         (0, [-1.0, 0.0, -0.0, 1.0], [1, 0], [-3.0, 2.0])
     );
 }
@@ -60,27 +46,27 @@ fn answers(rt: HostRuntime) {
 #[test]
 fn inputs(rt: HostRuntime) {
     assert_eq!(rt;
-        solve64(0, &[f64::NAN], &[]),
+        solve::<f64>(0, &[f64::NAN], &[]),
         (1, [7.0; 4], [9, 9], [8.0; 2])
     );
     assert_eq!(rt;
-        solve64(129, &[f64::NAN], &[]),
+        solve::<f64>(129, &[f64::NAN], &[]),
         (1, [7.0; 4], [9, 9], [8.0; 2])
     );
     assert_eq!(rt;
-        solve64(2, &[f64::NAN, 0.0, 0.0], &[1.0, 1.0]),
+        solve::<f64>(2, &[f64::NAN, 0.0, 0.0], &[1.0, 1.0]),
         (2, [7.0; 4], [9, 9], [8.0; 2])
     );
     assert_eq!(rt;
-        solve64(2, &[0.0; 4], &[1.0, f64::INFINITY, 1.0]),
+        solve::<f64>(2, &[0.0; 4], &[1.0, f64::INFINITY, 1.0]),
         (2, [7.0; 4], [9, 9], [8.0; 2])
     );
     assert_eq!(rt;
-        solve64(2, &[0.0, 0.0, 0.0, f64::NAN], &[1.0, 1.0]),
+        solve::<f64>(2, &[0.0, 0.0, 0.0, f64::NAN], &[1.0, 1.0]),
         (3, [7.0; 4], [9, 9], [8.0; 2])
     );
     assert_eq!(rt;
-        solve64(2, &[0.0; 4], &[1.0, f64::INFINITY]),
+        solve::<f64>(2, &[0.0; 4], &[1.0, f64::INFINITY]),
         (3, [7.0; 4], [9, 9], [8.0; 2])
     );
 }
@@ -88,15 +74,15 @@ fn inputs(rt: HostRuntime) {
 #[test]
 fn inputs_of_binary32(rt: HostRuntime) {
     assert_eq!(rt;
-        solve32(129, &[f32::NAN], &[]),
+        solve::<f32>(129, &[f32::NAN], &[]),
         (1, [7.0; 4], [9, 9], [8.0; 2])
     );
     assert_eq!(rt;
-        solve32(2, &[f32::NAN; 4], &[1.0]),
+        solve::<f32>(2, &[f32::NAN; 4], &[1.0]),
         (2, [7.0; 4], [9, 9], [8.0; 2])
     );
     assert_eq!(rt;
-        solve32(2, &[0.0; 4], &[1.0, f32::INFINITY]),
+        solve::<f32>(2, &[0.0; 4], &[1.0, f32::INFINITY]),
         (3, [7.0; 4], [9, 9], [8.0; 2])
     );
 }
@@ -105,27 +91,27 @@ fn inputs_of_binary32(rt: HostRuntime) {
 #[test]
 fn work(rt: HostRuntime) {
     assert_eq!(rt;
-        solve64(2, &[SMALL; 4], &[LARGE, 1.0]),
+        solve::<f64>(2, &[SMALL; 4], &[LARGE, 1.0]),
         (5, [SMALL, SMALL, 1.0, 0.0], [0, 1], [8.0; 2])
     );
     assert_eq!(rt;
-        solve64(2, &[SMALL, 1.0, LARGE, 1.0], &[1.0, 1.0]),
+        solve::<f64>(2, &[SMALL, 1.0, LARGE, 1.0], &[1.0, 1.0]),
         (6, [LARGE, 1.0, SMALL, 1.0], [1, 0], [8.0; 2])
     );
     assert_eq!(rt;
-        solve64(2, &[1.0, 0.0, 0.0, SMALL], &[1.0, LARGE]),
+        solve::<f64>(2, &[1.0, 0.0, 0.0, SMALL], &[1.0, LARGE]),
         (6, [1.0, 0.0, 0.0, SMALL], [0, 1], [8.0; 2])
     );
     assert_eq!(rt;
-        solve32(2, &[SMALL32; 4], &[LARGE32, 1.0]),
+        solve::<f32>(2, &[SMALL32; 4], &[LARGE32, 1.0]),
         (5, [SMALL32, SMALL32, 1.0, 0.0], [0, 1], [8.0; 2])
     );
     assert_eq!(rt;
-        solve32(2, &[SMALL32, 1.0, LARGE32, 1.0], &[1.0, 1.0]),
+        solve::<f32>(2, &[SMALL32, 1.0, LARGE32, 1.0], &[1.0, 1.0]),
         (6, [LARGE32, 1.0, SMALL32, 1.0], [1, 0], [8.0; 2])
     );
     assert_eq!(rt;
-        solve32(2, &[1.0, 0.0, 0.0, SMALL32], &[1.0, LARGE32]),
+        solve::<f32>(2, &[1.0, 0.0, 0.0, SMALL32], &[1.0, LARGE32]),
         (6, [1.0, 0.0, 0.0, SMALL32], [0, 1], [8.0; 2])
     );
 }
@@ -134,17 +120,20 @@ fn work(rt: HostRuntime) {
 #[test]
 fn again_numbers(rt: HostRuntime) {
     let lu = [1.0, 0.0, 0.0, SMALL];
-    assert_eq!(rt; again64(0, &lu, &[0, 0], &[1.0]), (1, [8.0; 2]));
-    assert_eq!(rt; again64(2, &lu, &[0, 0], &[f64::NAN]), (2, [8.0; 2]));
-    assert_eq!(rt; again64(2, &lu, &[0, 0], &[f64::NAN, LARGE]), (3, [8.0; 2]));
-    assert_eq!(rt; again64(2, &lu, &[1, 1], &[1.0, LARGE]), (4, [8.0; 2]));
-    assert_eq!(rt; again64(2, &lu, &[0, 1], &[1.0, LARGE]), (6, [8.0; 2]));
+    assert_eq!(rt; again::<f64>(0, &lu, &[0, 0], &[1.0]), (1, [8.0; 2]));
+    assert_eq!(rt; again::<f64>(2, &lu, &[0, 0], &[f64::NAN]), (2, [8.0; 2]));
     assert_eq!(rt;
-        again64(2, &lu, &[1, 0], &[SMALL, LARGE]),
+        again::<f64>(2, &lu, &[0, 0], &[f64::NAN, LARGE]),
+        (3, [8.0; 2])
+    );
+    assert_eq!(rt; again::<f64>(2, &lu, &[1, 1], &[1.0, LARGE]), (4, [8.0; 2]));
+    assert_eq!(rt; again::<f64>(2, &lu, &[0, 1], &[1.0, LARGE]), (6, [8.0; 2]));
+    assert_eq!(rt;
+        again::<f64>(2, &lu, &[1, 0], &[SMALL, LARGE]),
         (0, [LARGE, 1.0])
     );
     assert_eq!(rt;
-        again64(2, &[1.0, 1.0, 1.0, 0.0], &[0, 1], &[1.0, 1.0]),
+        again::<f64>(2, &[1.0, 1.0, 1.0, 0.0], &[0, 1], &[1.0, 1.0]),
         (4, [8.0; 2])
     );
 }
@@ -153,13 +142,19 @@ fn again_numbers(rt: HostRuntime) {
 fn again_numbers_of_binary32(rt: HostRuntime) {
     let lu = [1.0, 0.0, 0.0, SMALL32];
     assert_eq!(rt;
-        again32(2, &lu, &[0, 0], &[f32::NAN, LARGE32]),
+        again::<f32>(2, &lu, &[0, 0], &[f32::NAN, LARGE32]),
         (3, [8.0; 2])
     );
-    assert_eq!(rt; again32(2, &lu, &[1, 1], &[1.0, LARGE32]), (4, [8.0; 2]));
-    assert_eq!(rt; again32(2, &lu, &[0, 1], &[1.0, LARGE32]), (6, [8.0; 2]));
     assert_eq!(rt;
-        again32(2, &lu, &[1, 0], &[SMALL32, LARGE32]),
+        again::<f32>(2, &lu, &[1, 1], &[1.0, LARGE32]),
+        (4, [8.0; 2])
+    );
+    assert_eq!(rt;
+        again::<f32>(2, &lu, &[0, 1], &[1.0, LARGE32]),
+        (6, [8.0; 2])
+    );
+    assert_eq!(rt;
+        again::<f32>(2, &lu, &[1, 0], &[SMALL32, LARGE32]),
         (0, [LARGE32, 1.0])
     );
 }

@@ -1,25 +1,28 @@
 -- The bytes that a text begins with, and the words of the text.
-use Rattle.std.proofs.Common.{◌≡◌, ℕ, zero, suc, ◌+◌, ◌<◌, Bool, true, false, cond, not, List, [], ◌∷◌, ◌++◌, length, get_or, take, drop, sym, refl, ap, ◌∙◌, append_assoc, append-nil, add-one, arith, drop-cons}
-use mathlib.Core.Bool.{beq}
+use Rattle.std.proofs.Common.{◌≡◌, ℕ, zero, suc, ◌+◌, ◌<◌, Bool, true, false, cond, not, List, [], ◌∷◌, ◌++◌, length, take, drop, Option, MatchOption, sym, refl, ap, ◌∙◌, append_assoc, append-nil, add-one, arith}
+use Rattle.std.specs.Bool.{beq}
+use Rattle.std.specs.List.{AllWithin, HoldsAt}
+use Rattle.std.specs.Option.{unwrap_or}
+use Rattle.std.proofs.lemmas.Bool.{not-true, not-false}
+use Rattle.std.proofs.lemmas.Iterator.{index_from_first}
 use Rattle.text_model.specs.Words.{Word, separator, ended, words_after, words_of}
 use Rattle.system_text.specs.Left.{leading}
 
--- one more byte, or the first that does not count
-pub leading_more : (s : Bool) (xs : List ℕ) (i : ℕ) → i < length xs → not (beq (separator (get_or xs i 0)) s) ≡ false → i + 1 + leading s (drop (i + 1) xs) ≡ i + leading s (drop i xs)
-unfolding leading
-leading_more s xs i h e = rw (add-one i) (rw (drop-cons xs i 0) (counted (beq (separator (get_or xs i 0)) s) e))
-  where
-    counted : (t : Bool) → not t ≡ false → suc i + leading s (drop (suc i) xs) ≡ i + cond t (suc (leading s (drop (suc i) xs))) 0
-    counted true e = omega arith
-    counted false e = let z : ◌≡◌ {A = Bool} true false = e in cc
+-- the place of the first byte that does not count, or the text's length
+abbrev counts : Bool → Bool → ℕ → Type 0
+counts s t b = not (beq (separator b) s) ≡ t
 
-pub leading_stop : (s : Bool) (xs : List ℕ) (i : ℕ) → i < length xs → not (beq (separator (get_or xs i 0)) s) ≡ true → leading s (drop i xs) ≡ 0
+pub leading_first : (s : Bool) (xs : List ℕ) (r : Option ℕ)
+    → MatchOption r (AllWithin (counts s false) xs 0 (length xs)) (λ i. (i < length xs) × HoldsAt (counts s true) xs i × AllWithin (counts s false) xs 0 i)
+    → unwrap_or r (length xs) ≡ leading s xs
 unfolding leading
-leading_stop s xs i h e = rw (drop-cons xs i 0) (stopped (beq (separator (get_or xs i 0)) s) e)
+leading_first s xs r h = sym (index_from_first (leading s) (counts s true) (counts s false) refl stop more xs r h)
   where
-    stopped : (t : Bool) → not t ≡ true → cond t (suc (leading s (drop (suc i) xs))) 0 ≡ 0
-    stopped true e = let z : ◌≡◌ {A = Bool} false true = e in cc
-    stopped false e = refl
+    stop : (b : ℕ) (bs : List ℕ) → counts s true b → leading s (b ∷ bs) ≡ 0
+    stop b bs e = ap (λ t. cond t (suc (leading s bs)) 0) (not-true (beq (separator b) s) e)
+
+    more : (b : ℕ) (bs : List ℕ) → counts s false b → leading s (b ∷ bs) ≡ leading s bs + 1
+    more b bs e = ap (λ t. cond t (suc (leading s bs)) 0) (not-false (beq (separator b) s) e) ∙ sym (add-one (leading s bs))
 
 -- separators in front change no word
 pub words_skip : (t : List ℕ) → words_of t ≡ words_of (drop (leading true t) t)

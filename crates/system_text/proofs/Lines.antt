@@ -5,7 +5,6 @@ use Rattle.std.specs.List.{between}
 use Rattle.std.proofs.lemmas.List.{append_assoc, append-nil, at_drop_more, at_drop_all, nil_from_length}
 use Rattle.std.proofs.lemmas.Slice.{first_rest}
 use Rattle.element.specs.Matrix.{Row, matrix}
-use Rattle.element.proofs.Rows.{rows_from, rows_next, rows_end}
 use Rattle.number_text.specs.Printed.{printed}
 use Rattle.text_model.specs.declared.Precision.{Precision}
 use Rattle.text_model.specs.Words.{Word}
@@ -70,21 +69,19 @@ module _ {X : Type 0} (word : X → Word) (xs : List X) where
         ∙ part_next a (word x) (line_after (map word (tail xs))) first _ f (ap (λ y. a ++ (word y ++ line_after (map word (tail xs)))) e)
         ∙ sym (ap (λ ys. a ++ line (map word ys)) (first_rest xs x h))
 
--- ---- the rows of a matrix of size n
-module _ (n : ℕ) (a : Row) where
-  abbrev pub RowsTo : List ℕ → ℕ → List ℕ → Type 0
-  RowsTo done i whole = done ++ row_lines (rows_from n i a) ≡ whole
+-- ---- the rows of a matrix that are left; v is what an element is as a float
+module _ {X : Type 0} (v : X → Float) where
+  abbrev pub RowsTo : List ℕ → List (List X) → List ℕ → Type 0
+  RowsTo done rows whole = done ++ row_lines (map (map v) rows) ≡ whole
 
-  pub rows_step : (done now whole : List ℕ) (i : ℕ) (r : Row) → i < n → r ≡ take n (drop (i * n) a) → now ≡ done ++ line (map printed r) → RowsTo done i whole → RowsTo now (i + 1) whole
+  pub rows_step : (done now whole : List ℕ) {rows rest : List (List X)} {r : List X} → rows ≡ r ∷ rest → now ≡ done ++ line (map printed (map v r)) → RowsTo done rows whole → RowsTo now rest whole
   unfolding row_lines
-  rows_step done now whole i r h e w t =
-      let one = take n (drop (i * n) a) in
-      part_next done (line (map printed one)) (row_lines (rows_from n (i + 1) a)) now whole (w ∙ ap (λ z. done ++ line (map printed z)) e)
-      (sym (ap (λ rs. done ++ row_lines rs) (rows_next n i a h)) ∙ t)
+  rows_step done now whole {rest = rest} {r = r} steps w t =
+      part_next done (line (map printed (map v r))) (row_lines (map (map v) rest)) now whole w (sym (ap (λ rs. done ++ row_lines (map (map v) rs)) steps) ∙ t)
 
-  pub rows_last : (done whole : List ℕ) (i : ℕ) → n ≤ i → RowsTo done i whole → done ≡ whole
+  pub rows_last : (done whole : List ℕ) {rows : List (List X)} → rows ≡ [] → RowsTo done rows whole → done ≡ whole
   unfolding row_lines
-  rows_last done whole i h t = sym (append-nil done) ∙ sym (ap (λ rs. done ++ row_lines rs) (rows_end n i a h)) ∙ t
+  rows_last done whole none t = sym (append-nil done) ∙ sym (ap (λ rs. done ++ row_lines (map (map v) rs)) none) ∙ t
 
 -- ---- the text of factors, after the bytes a
 pub factors-parts : (a m1 m2 m3 m4 m5 : List ℕ) (p : Precision) (n : ℕ) (order : List ℕ) (lu : Row) → m1 ≡ a ++ factors_word p → m2 ≡ m1 ++ 32 ∷ [] → m3 ≡ m2 ++ decimal n → m4 ≡ m3 ++ 10 ∷ []

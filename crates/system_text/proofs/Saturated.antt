@@ -28,13 +28,20 @@ from_digit n w i h d = sym (ap (read_from n) (drop_more w i 0 h) ∙ step (get_o
         ap (λ t. cond (t && digits_below 10 cs) (Some (min (digits_value_after 10 m cs) 65535)) None) (lt-ltb (digit_value c) 10 d)
         ∙ ap more (held m (min m 65535) cs (omega arith))
 
-pub from-other : (n : ℕ) (w : List ℕ) (i : ℕ) → i < length w → 10 ≤ digit_value (get_or w i 0) → read_from n (drop i w) ≡ None
+pub from-other : (n : ℕ) (w : List ℕ) (i : ℕ) → i < length w → (digit_value (get_or w i 0) < 10 → ⊥) → read_from n (drop i w) ≡ None
 from-other n w i h d =
     ap (read_from n) (drop_more w i 0 h)
-    ∙ ap (λ t. cond (t && digits_below 10 (drop (i + 1) w)) (Some (min (digits_value_after 10 n (get_or w i 0 ∷ drop (i + 1) w)) 65535)) None) (le-ltb (digit_value (get_or w i 0)) 10 d)
+    ∙ ap (λ t. cond (t && digits_below 10 (drop (i + 1) w)) (Some (min (digits_value_after 10 n (get_or w i 0 ∷ drop (i + 1) w)) 65535)) None) (below (digit_value (get_or w i 0)) d)
+  where
+    below : (k : ℕ) → (k < 10 → ⊥) → ltb k 10 ≡ false
+    below k h = le-ltb k 10 (omega arith)
 
 pub from_end : (n : ℕ) (w : List ℕ) (i : ℕ) → length w ≤ i → n ≤ 65535 → read_from n (drop i w) ≡ Some n
 from_end n w i h b = at_drop_all (read_from n) w i h ∙ ap Some (omega arith)
+
+-- one more digit, where the sums stop at 65535
+pub saturated : (n d m r : ℕ) → m ≡ min (n * 10) 65535 → r ≡ min (m + d) 65535 → r ≡ min (n * 10 + d) 65535
+saturated n d m r p q = omega arith
 
 -- ---- a whole word
 pub place_none : (w : List ℕ) → read_from 0 w ≡ None → place w ≡ None

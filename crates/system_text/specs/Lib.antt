@@ -1,2 +1,4 @@
 pub mod Left
 pub mod Read
+pub mod Each
+pub mod Write

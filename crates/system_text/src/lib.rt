@@ -1,6 +1,7 @@
 // Texts of systems and of factors: read into numbers, and written.
 #![tactic(auto)]
 
+mod each;
 mod factors;
 mod head;
 mod numbers;
@@ -14,6 +15,6 @@ pub use factors::{FactorsText, read_factors};
 pub use head::Head;
 pub use numbers::read_numbers;
 pub use open::{open_text, read_head};
-pub use system::read_system;
+pub use system::{SystemText, read_system};
 pub use words::Words;
 pub use write::{write_answer, write_factors, write_refusal};

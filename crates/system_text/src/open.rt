@@ -13,14 +13,14 @@ use text_model::{Precision, TextRefusal};
 // The length of the longest text that is read, 16 MiB.
 const LONGEST: usize = 16777216;
 
-// The format that the first word names.
-fn read_precision(double: &[u8], single: &[u8], word: &[u8]) -> Result<Precision, TextRefusal>
-    requires { single.now ≡ double.now ++ codes "32" }
-    ensures { result ≡ formed (precision_of double.now word.now) }
+// The format that the first word names, which is `name`, and `32` after it for binary32.
+fn read_precision(name: &[u8], word: &[u8]) -> Result<Precision, TextRefusal>
+    ensures { result ≡ formed (precision_of name.now word.now) }
 {
-    if word == double {
+    let rest = word.strip_prefix(name).ok_or(TextRefusal::Form)?;
+    if rest.is_empty() {
         Ok(Precision::Double)
-    } else if word == single {
+    } else if rest == b"32".as_slice() {
         Ok(Precision::Single)
     } else {
         Err(TextRefusal::Form)
@@ -31,29 +31,18 @@ fn read_precision(double: &[u8], single: &[u8], word: &[u8]) -> Result<Precision
 fn read_size(word: &[u8]) -> Result<usize, TextRefusal>
     ensures { result ≡ size_of word.now }
 {
-    let Some(size) = read_whole(word) else {
-        return Err(TextRefusal::Form);
-    };
-    if (1 <= size) & (size <= 128) {
-        Ok(size as usize)
-    } else {
-        Err(TextRefusal::Size)
+    match read_whole(word)? {
+        size @ 1..=128 => Ok(usize::from(size)),
+        _ => Err(TextRefusal::Size),
     }
 }
 
-// The two words of the head, of which `double` and `single` are what the first may be.
-pub fn read_head(double: &[u8], single: &[u8], words: &mut Words) -> Result<Head, TextRefusal>
-    requires { single.now ≡ double.now ++ codes "32" }
-    ensures { Answered (head_read (left words.new)) (head_of double.now (left words.old)) result }
+// The two words of the head, of which the first begins with `name`.
+pub fn read_head(name: &[u8], words: &mut Words) -> Result<Head, TextRefusal>
+    ensures { Answered (head_read (left words.new)) (head_of name.now (left words.old)) result }
 {
-    let Some(name) = words.next_word() else {
-        return Err(TextRefusal::Form);
-    };
-    let precision = read_precision(double, single, name)?;
-    let Some(digits) = words.next_word() else {
-        return Err(TextRefusal::Form);
-    };
-    let size = read_size(digits)?;
+    let precision = read_precision(name, words.next().ok_or(TextRefusal::Form)?)?;
+    let size = read_size(words.next().ok_or(TextRefusal::Form)?)?;
     Ok(Head { precision, size })
 }
 

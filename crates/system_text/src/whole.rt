@@ -1,33 +1,22 @@
 // Whole numbers in decimal digits, of any count.
-ghost use Rattle.std.specs.Prelude.{◌≡◌, ◌+◌, ◌*◌, ◌<◌, ◌≤◌, min};
+ghost use Rattle.std.specs.Prelude.{◌≡◌};
 ghost use Rattle.text_model.specs.Factors.{place};
+ghost use Rattle.system_text.specs.Read.{formed};
 
-use number_text::digit_value;
-
-// One more digit; a number above 65535 is held as 65535.
-fn with_digit(number: u64, digit: u64) -> u64
-    requires { (number ≤ 65535) × (digit < 10) }
-    ensures { result ≡ min (number * 10 + digit) 65535 }
-{
-    let more = number * 10 + digit;
-    if more < 65535 { more } else { 65535 }
-}
+use text_model::TextRefusal;
 
 // The number that the word spells, or 65535 if it is larger.
-pub fn read_whole(word: &[u8]) -> Option<u16>
-    ensures { result ≡ place word.now }
+pub fn read_whole(word: &[u8]) -> Result<u16, TextRefusal>
+    ensures { result ≡ formed (place word.now) }
 {
-    let mut number = 0;
-    for i in 0..word.len() {
-        let digit = digit_value(word[i]);
-        if digit >= 10 {
-            return None;
-        }
-        number = with_digit(number, digit);
-    }
     if word.is_empty() {
-        None
-    } else {
-        Some(number as u16)
+        return Err(TextRefusal::Form);
     }
+    let mut number = 0u16;
+    for byte in word {
+        let digit = char::from(*byte).to_digit(10).ok_or(TextRefusal::Form)?;
+        // `as`, since it is proved to lose nothing; `TryFrom` would add a failure that never comes.
+        number = number.saturating_mul(10).saturating_add(digit as u16);
+    }
+    Ok(number)
 }

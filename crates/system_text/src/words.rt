@@ -1,9 +1,11 @@
 // The reader of a text: it holds a reference to what is left of it, and gives each word as a part of that.
-ghost use Rattle.std.specs.Prelude.{◌≡◌, ◌≤◌, [], ◌∷◌, length, MatchOption};
+ghost use Rattle.std.specs.Prelude.{◌≡◌, ◌≤◌, length};
+ghost use Rattle.std.specs.Iterator.{YieldsFirstRef, item_count};
 ghost use Rattle.text_model.specs.Words.{separator as separates, words_of};
 ghost use Rattle.system_text.specs.Left.{left, leading as leading_bytes};
 
-// Space, tab, carriage return and line feed.
+// Space, tab, carriage return and line feed; std's test of ASCII white space takes the form feed too. Not by `matches!`:
+// measured, `solve` on a text of size 128 then takes 5 in 100 instructions more, since the four tests stay four branches.
 fn is_separator(byte: u8) -> bool
     ensures { result ≡ separates byte }
 {
@@ -15,14 +17,12 @@ fn leading(separators: bool, text: &[u8]) -> usize
     ensures value { result ≡ leading_bytes separators text.now }
     ensures bound { result ≤ length text.now }
 {
-    for (i, byte) in text.iter().enumerate() {
-        if is_separator(*byte) != separators {
-            return i;
-        }
-    }
-    text.len()
+    text.iter()
+        .position(|byte| is_separator(*byte) != separators)
+        .unwrap_or(text.len())
 }
 
+// The words that are left, from the first on.
 #[derive(Drop)]
 pub struct Words<'a> {
     rest: &'a [u8],
@@ -34,15 +34,19 @@ impl<'a> Words<'a> {
     {
         Words { rest: text }
     }
+}
 
-    // The next word, which is then no longer left.
-    pub fn next_word(&mut self) -> Option<&'a [u8]>
-        ensures { MatchOption result ((left self.old ≡ []) × (left self.new ≡ [])) (λ w. left self.old ≡ w.now ∷ left self.new) }
-    {
+impl<'a> Iterator for Words<'a> {
+    type Item = &'a [u8];
+
+    ghost next_gives = { YieldsFirstRef left };
+
+    ghost remaining = { item_count left };
+
+    fn next(&mut self) -> Option<&'a [u8]> {
         let (_, text) = self.rest.split_at(leading(true, self.rest));
-        let end = leading(false, text);
-        let (word, rest) = text.split_at(end);
+        let (word, rest) = text.split_at(leading(false, text));
         self.rest = rest;
-        if end == 0 { None } else { Some(word) }
+        if word.is_empty() { None } else { Some(word) }
     }
 }

@@ -1,12 +1,12 @@
 // Answers, factors and refusals, written as lines.
-ghost use Rattle.std.specs.Prelude.{◌≡◌, ◌*◌, ◌≤◌, ◌++◌, map, length, OnOk};
-ghost use Rattle.element.specs.Matrix.{matrix};
+ghost use Rattle.std.specs.Prelude.{◌≡◌, ℕ, List, ◌++◌, map, OnOk};
+ghost use Rattle.element.specs.Rows.{matrix_values};
 ghost use Rattle.number_text.specs.Printed.{printed};
-ghost use Rattle.text_model.specs.Refusals.{decimal, factoring_detail, detail as detail_of, no_answer};
+ghost use Rattle.text_model.specs.Refusals.{no_answer};
 ghost use Rattle.text_model.specs.Lines.{number_lines, answer, line, row_lines, factors_word, factors_text};
+ghost use Rattle.system_text.specs.Write.{Appends};
 
-use element::{Numbered, Real, matrix_row};
-use model::FactorRefusal;
+use element::{Matrix, Real};
 use number_text::{Digits, write_decimal, write_finite};
 use std::alloc::AllocError;
 use text_model::{Precision, TextRefusal};
@@ -43,53 +43,38 @@ pub fn write_answer<R: Digits>(numbers: &[R], out: &mut Vec<u8>) -> Result<(), A
     write_numbers(numbers, out)
 }
 
-// The order, in one line.
-fn write_order(order: &[u16], out: &mut Vec<u8>) -> Result<(), AllocError>
-    ensures { OnOk result (out.new.items ≡ out.old.items ++ line (map decimal order.now)) }
+// Items in one line, with a separator between the words that `word` appends for them.
+fn write_line<T: Copy + Drop, F: Fn(T, &mut Vec<u8>) -> Result<(), AllocError>>(
+    items: &[T],
+    word: F,
+    out: &mut Vec<u8>,
+) -> Result<(), AllocError>
+    requires { F.IsAlwaysCallable word }
+    ensures { OnOk result ((text : T → List ℕ) → Appends (F.post word) text → out.new.items ≡ out.old.items ++ line (map text items.now)) }
 {
-    let [first, rest @ ..] = order else {
-        out.push(b'\n')?;
-        return Ok(());
-    };
-    write_decimal(*first as u64, out)?;
-    for row in rest {
-        out.push(SEPARATOR)?;
-        write_decimal(*row as u64, out)?;
+    if let [first, rest @ ..] = items {
+        word(*first, out)?;
+        for item in rest {
+            out.push(SEPARATOR)?;
+            word(*item, out)?;
+        }
     }
     out.push(b'\n')?;
     Ok(())
 }
 
-// A row of numbers, in one line.
-fn write_row<R: Digits>(row: &[R], out: &mut Vec<u8>) -> Result<(), AllocError>
-    ensures { OnOk result (out.new.items ≡ out.old.items ++ line (map printed (map R.Real.val row.now))) }
+// The rows of a matrix, each in a line.
+fn write_rows<R: Digits>(a: &Matrix<R>, out: &mut Vec<u8>) -> Result<(), AllocError>
+    ensures { OnOk result (out.new.items ≡ out.old.items ++ row_lines (matrix_values R.Real.val a.now)) }
 {
-    let [first, rest @ ..] = row else {
-        out.push(b'\n')?;
-        return Ok(());
-    };
-    write_value(*first, out)?;
-    for x in rest {
-        out.push(SEPARATOR)?;
-        write_value(*x, out)?;
-    }
-    out.push(b'\n')?;
-    Ok(())
-}
-
-// The rows of a matrix of size n, each in a line.
-fn write_rows<R: Digits>(n: usize, a: &[R], out: &mut Vec<u8>) -> Result<(), AllocError>
-    requires size { n ≤ 128 }
-    requires matrix { length a.now ≡ n * n }
-    ensures { OnOk result (out.new.items ≡ out.old.items ++ row_lines (matrix n (map R.Real.val a.now))) }
-{
-    for i in 0..n {
-        write_row(matrix_row(n, a, i), out)?;
+    for row in a.rows() {
+        write_line(row, |x, out| write_value(x, out), out)?;
     }
     Ok(())
 }
 
-// The word that the text of factors begins with.
+// The word that the text of factors begins with. A `Display` of the format would be no plainer, since no other text has
+// these words.
 fn write_format(precision: Precision, out: &mut Vec<u8>) -> Result<(), AllocError>
     ensures { OnOk result (out.new.items ≡ out.old.items ++ factors_word precision) }
 {
@@ -102,59 +87,24 @@ fn write_format(precision: Precision, out: &mut Vec<u8>) -> Result<(), AllocErro
 // The text of factors: the format and the size, the order, and the rows.
 pub fn write_factors<R: Digits>(
     precision: Precision,
-    n: usize,
     order: &[u16],
-    lu: &[R],
+    lu: &Matrix<R>,
     out: &mut Vec<u8>,
 ) -> Result<(), AllocError>
-    requires size { n ≤ 128 }
-    requires matrix { length lu.now ≡ n * n }
-    ensures { OnOk result (out.new.items ≡ out.old.items ++ factors_text precision n order.now (map R.Real.val lu.now)) }
+    ensures { OnOk result (out.new.items ≡ out.old.items ++ factors_text precision lu.now.size order.now (map R.Real.val lu.now.entries.now)) }
 {
     write_format(precision, out)?;
     out.push(SEPARATOR)?;
-    write_decimal(n as u64, out)?;
+    // `as`, since there is no `From<usize> for u64`.
+    write_decimal(lu.size() as u64, out)?;
     out.push(b'\n')?;
-    write_order(order, out)?;
-    write_rows(n, lu, out)
-}
-
-// The number of a refusal of the factoring, with the column.
-fn write_factoring(refusal: FactorRefusal, out: &mut Vec<u8>) -> Result<(), AllocError>
-    ensures { OnOk result (out.new.items ≡ out.old.items ++ factoring_detail refusal) }
-{
-    match refusal {
-        FactorRefusal::Input(input) => write_decimal(input.number() as u64, out),
-        FactorRefusal::Pivot(column) => {
-            out.extend_from_slice(b"5 ")?;
-            write_decimal(column as u64, out)
-        }
-        FactorRefusal::Range(column) => {
-            out.extend_from_slice(b"6 ")?;
-            write_decimal(column as u64, out)
-        }
-    }
-}
-
-fn write_detail(refusal: TextRefusal, out: &mut Vec<u8>) -> Result<(), AllocError>
-    ensures { OnOk result (out.new.items ≡ out.old.items ++ detail_of refusal) }
-{
-    match refusal {
-        TextRefusal::Size => out.extend_from_slice(b"1"),
-        TextRefusal::Form => out.extend_from_slice(b"7"),
-        TextRefusal::Count => out.extend_from_slice(b"8"),
-        TextRefusal::Factors => out.extend_from_slice(b"4"),
-        TextRefusal::Factoring(refusal) => write_factoring(refusal, out),
-        TextRefusal::Solving => out.extend_from_slice(b"6 solving"),
-        TextRefusal::Memory => Ok(()),
-    }
+    write_line(order, |row, out| write_decimal(u64::from(row), out), out)?;
+    write_rows(lu, out)
 }
 
 pub fn write_refusal(refusal: TextRefusal, out: &mut Vec<u8>) -> Result<(), AllocError>
     ensures { OnOk result (out.new.items ≡ out.old.items ++ no_answer refusal) }
 {
-    out.extend_from_slice(b"no answer ")?;
-    write_detail(refusal, out)?;
-    out.push(b'\n')?;
-    Ok(())
+    let text = format!(in *out.allocator(); "no answer {refusal}\n")?;
+    out.extend_from_slice(text.as_bytes())
 }

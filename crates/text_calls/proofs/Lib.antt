@@ -1,4 +1,3 @@
 pub mod Entries
-pub mod Systems
 pub mod Shown
 pub mod RightSides

@@ -1,24 +1,23 @@
 -- The right sides after factors, read and answered one by one.
-use Rattle.std.proofs.Common.{◌≡◌, ℕ, zero, suc, ◌*◌, ◌<◌, ◌≤◌, min, Bool, true, false, cond, ◌&&◌, eqb, ltb, List, [], ◌∷◌, ◌++◌, length, take, drop, is_ok, Some, None, Ok, Err, Option, Result, sym, refl, ap, ◌∙◌, subst, true≢false, append_assoc, append-nil, arith, length-drop, length-take}
+use Rattle.std.proofs.Common.{◌≡◌, ℕ, zero, suc, ◌<◌, ◌≤◌, min, true, false, cond, ltb, List, [], ◌∷◌, ◌++◌, length, take, drop, is_ok, Some, None, Ok, Err, Option, Result, sym, refl, ap, ◌∙◌, subst, true≢false, append_assoc, append-nil, arith, length-drop, length-take}
 use lib.Ieee.{Format}
 use lib.Seq.{take-nil}
-use Rattle.std.proofs.lemmas.Bool.{lt-ltb, le-ltb, eqb-true}
+use Rattle.std.proofs.lemmas.Bool.{lt-ltb, le-ltb}
 use Rattle.element.specs.Matrix.{Row, matrix}
 use Rattle.model.specs.declared.AgainRefusal.{AgainRefusal}
 use Rattle.model.specs.Solve.{solution}
-use Rattle.model.specs.Calls.{factors_sound, again_outcome, again_x}
+use Rattle.model.specs.Calls.{again_outcome, again_x}
 use Rattle.text_model.specs.declared.TextRefusal.{TextRefusal}
-use Rattle.text_model.specs.declared.TextRefusal.TheVariants.{Form, Count, Factors}
+use Rattle.text_model.specs.declared.TextRefusal.TheVariants.{Form, Count}
 use Rattle.text_model.specs.Words.{Word}
 use Rattle.text_model.specs.Refusals.{again_refusal, no_answer}
-use Rattle.text_model.specs.Systems.{Head, all_of, numbers_of}
-use Rattle.text_model.specs.Factors.{Factored, complete}
+use Rattle.text_model.specs.Systems.{all_of, numbers_of}
 use Rattle.text_model.specs.Lines.{answer}
-use Rattle.text_model.specs.Programs.{outcome, solved_again, answers, answers_to}
+use Rattle.text_model.specs.Programs.{outcome, solved_again, answers}
 use Rattle.text_model.proofs.Fit.{Given, Values, given_numbers}
 use Rattle.system_text.specs.Read.{formed}
 use Rattle.system_text.proofs.Counted.{formed-some, formed-none}
-use Rattle.text_calls.specs.Again.{all_answers, AnswersNext, again_lines_of}
+use Rattle.text_calls.specs.Again.{all_answers, AnswersNext}
 
 -- ---- one right side, with the call's outcome
 module _ (f : Format) (n : ℕ) (lu : Row) (order : List ℕ) (b : Row) where
@@ -114,24 +113,3 @@ module _ (f : Format) (n : ℕ) (lu : Row) (order : List ℕ) (some : 1 ≤ n) w
               ∙ ap (λ t. cond t (no_answer Count) (text ++ all (drop n ws))) (le-ltb (length b) n l)));
           fewer = λ _. omega (arith, ap length rest, length-drop n ws);
         }
-
--- ---- the factors and the text
-pub complete-count : (h : Head) (o : Option (List ℕ)) (l : Option Row) (r : Factored) → complete h o l ≡ Ok r → length r.lu ≡ h.size * h.size
-complete-count h None l r e = let z : ◌≡◌ {A = ℕ} 0 1 = cc in absurd (omega arith)
-complete-count h (Some order) None r e = let z : ◌≡◌ {A = ℕ} 0 1 = cc in absurd (omega arith)
-complete-count h (Some order) (Some lu) r e =
-    let p = taken (eqb (length order) h.size) (eqb (length lu) (h.size * h.size)) _ r e in
-    sym (ap (λ (s : Factored). length s.lu) p.1) ∙ eqb-true (length lu) (h.size * h.size) p.0
-  where
-    taken : (a b : Bool) (s r : Factored) → cond (a && b) (Ok s) (Err Count) ≡ Ok r → (b ≡ true) × (s ≡ r)
-    taken true true s r e = (refl, cc)
-    taken true false s r e = let z : ◌≡◌ {A = ℕ} 0 1 = cc in absurd (omega arith)
-    taken false b s r e = let z : ◌≡◌ {A = ℕ} 0 1 = cc in absurd (omega arith)
-
-pub lines-printed : (r : Result Factored TextRefusal) → outcome (λ text. text) (again_lines_of r) ≡ outcome answers_to r
-lines-printed (Err e) = refl
-lines-printed (Ok h) = go (factors_sound h.size h.lu h.order) _
-  where
-    go : (sound : Bool) (lines : List ℕ) → outcome (λ text. text) (cond sound (Ok lines) (Err Factors)) ≡ cond sound lines (no_answer Factors)
-    go true lines = refl
-    go false lines = refl

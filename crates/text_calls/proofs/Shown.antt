@@ -1,11 +1,11 @@
--- What is printed for the lines of a text, or for its refusal.
+-- What `solve` prints for the lines of a text, or for its refusal.
 use Rattle.std.proofs.Common.{◌≡◌, ℕ, List, Ok, Err, Result, refl}
 use Rattle.element.specs.Matrix.{Row}
 use Rattle.text_model.specs.declared.TextRefusal.{TextRefusal}
-use Rattle.text_model.specs.Systems.{System}
+use Rattle.text_model.specs.Systems.{Head, System, system_after}
 use Rattle.text_model.specs.Lines.{answer}
-use Rattle.text_model.specs.Programs.{outcome, solved, factors_of_system}
-use Rattle.text_calls.specs.Lines.{lines_of, answer_lines}
+use Rattle.text_model.specs.Programs.{outcome, solved}
+use Rattle.text_calls.specs.Lines.{lines_of, answer_lines, solve_lines, lines_after}
 
 -- the lines, or the line of the refusal
 abbrev pub shown : Result (List ℕ) TextRefusal → List ℕ
@@ -15,10 +15,10 @@ answer-shown : (r : Result Row TextRefusal) → shown (elim r [ Ok xs ↦ Ok (an
 answer-shown (Ok xs) = refl
 answer-shown (Err e) = refl
 
-pub solve_shown : (r : Result System TextRefusal) → shown (lines_of answer_lines r) ≡ outcome (λ s. outcome answer (solved s)) r
-solve_shown (Ok s) = answer-shown (solved s)
-solve_shown (Err e) = refl
+system-shown : (r : Result System TextRefusal) → shown (lines_of answer_lines r) ≡ outcome (λ s. outcome answer (solved s)) r
+system-shown (Ok s) = answer-shown (solved s)
+system-shown (Err e) = refl
 
-pub factors-shown : (r : Result System TextRefusal) → shown (lines_of factors_of_system r) ≡ outcome (λ s. shown (factors_of_system s)) r
-factors-shown (Ok s) = refl
-factors-shown (Err e) = refl
+pub solve_shown : (r : Result Head TextRefusal) → shown (lines_after solve_lines r) ≡ outcome (λ s. outcome answer (solved s)) (system_after r)
+solve_shown (Ok h) = system-shown (system_after (Ok h))
+solve_shown (Err e) = refl

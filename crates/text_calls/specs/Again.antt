@@ -6,11 +6,9 @@ use Rattle.model.specs.Calls.{factors_sound}
 use Rattle.text_model.specs.declared.TextRefusal.{TextRefusal}
 use Rattle.text_model.specs.declared.TextRefusal.TheVariants.{Factors}
 use Rattle.text_model.specs.Words.{Word}
-use Rattle.text_model.specs.Systems.{format}
-use Rattle.text_model.specs.Factors.{Factored, factors_after, factors_of}
+use Rattle.text_model.specs.Systems.{Head, format}
+use Rattle.text_model.specs.Factors.{Factored, factors_after}
 use Rattle.text_model.specs.Programs.{answers}
-use Rattle.system_text.specs.declared.head.Head.{Head}
-use Rattle.system_text.specs.Read.{head_read}
 
 -- the lines for all right sides in the words
 abbrev pub all_answers : Format → ℕ → Row → List ℕ → List Word → List ℕ
@@ -30,9 +28,6 @@ again_lines_of (Ok h) =
     (Err Factors)
 again_lines_of (Err e) = Err e
 
--- after the head, and for the whole text
-abbrev pub again_factors_lines : Head → List Word → Result (List ℕ) TextRefusal
-again_factors_lines h ws = again_lines_of (factors_after (Ok (head_read ws h)))
-
-abbrev pub again_lines : List ℕ → Result (List ℕ) TextRefusal
-again_lines t = again_lines_of (factors_of t)
+-- after the head of a text
+abbrev pub again_lines : Head → Result (List ℕ) TextRefusal
+again_lines h = again_lines_of (factors_after (Ok h))

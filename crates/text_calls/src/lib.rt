@@ -3,7 +3,7 @@
 
 mod again;
 mod factors;
-mod printed;
+mod program;
 mod rows;
 mod solve;
 

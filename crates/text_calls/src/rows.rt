@@ -1,45 +1,31 @@
 // The matrix and the right side of a system, out of its rows.
-ghost use Rattle.std.specs.Prelude.{◌≡◌, ◌+◌, ◌*◌, ◌≤◌, map, length, replicate, IfOk, vec_len};
-ghost use Rattle.element.specs.Matrix.{zero_float};
+ghost use Rattle.std.specs.Prelude.{◌≡◌, ◌*◌, map, IfOk, vec_len};
 ghost use Rattle.text_model.specs.Systems.{coefficients, right_side};
 
 use element::Real;
 use std::alloc::{AllocError, Global};
+use system_text::SystemText;
 
-// The entries of n rows of n + 1 without the last of each.
-pub fn matrix_of<R: Real>(heap: Global, n: usize, entries: &[R]) -> Result<Vec<R>, AllocError>
-    requires size { n ≤ 128 }
-    requires count { length entries.now ≡ n * (n + 1) }
-    ensures { IfOk result (λ v. (map R.Real.val v.items ≡ coefficients n n (map R.Real.val entries.now)) × (vec_len v ≡ n * n)) }
+// The entries of the rows without the last of each.
+pub fn matrix_of<R: Real>(heap: Global, system: &SystemText<R>) -> Result<Vec<R>, AllocError>
+    ensures { IfOk result (λ v. (map R.Real.val v.items ≡ coefficients system.now.size system.now.size (map R.Real.val system.now.entries.items)) × (vec_len v ≡ system.now.size * system.now.size)) }
 {
+    let n = system.size;
     let mut matrix = Vec::new(heap);
-    for i in 0..n {
-        let start = i * (n + 1);
-        matrix.extend_from_slice(&entries[start..start + n])?;
+    for row in system.entries.chunks_exact(n + 1) {
+        matrix.extend_from_slice(&row[..n])?;
     }
     Ok(matrix)
 }
 
-// The last of each of n rows of n + 1 entries.
-pub fn right_side_of<R: Real>(heap: Global, n: usize, entries: &[R]) -> Result<Vec<R>, AllocError>
-    requires size { n ≤ 128 }
-    requires count { length entries.now ≡ n * (n + 1) }
-    ensures { IfOk result (λ v. (map R.Real.val v.items ≡ right_side n n (map R.Real.val entries.now)) × (vec_len v ≡ n)) }
+// The last entry of each row.
+pub fn right_side_of<R: Real>(heap: Global, system: &SystemText<R>) -> Result<Vec<R>, AllocError>
+    ensures { IfOk result (λ v. (map R.Real.val v.items ≡ right_side system.now.size system.now.size (map R.Real.val system.now.entries.items)) × (vec_len v ≡ system.now.size)) }
 {
+    let n = system.size;
     let mut right_side = Vec::new(heap);
-    for i in 0..n {
-        right_side.push(entries[i * (n + 1) + n])?;
+    for row in system.entries.chunks_exact(n + 1) {
+        right_side.push(row[n])?;
     }
     Ok(right_side)
-}
-
-// A row of n zeros.
-pub fn zeros<R: Real>(heap: Global, n: usize) -> Result<Vec<R>, AllocError>
-    ensures { IfOk result (λ v. (map R.Real.val v.items ≡ replicate n zero_float) × (vec_len v ≡ n)) }
-{
-    let mut row = Vec::new(heap);
-    while row.len() < n {
-        row.push(R::zero())?;
-    }
-    Ok(row)
 }

@@ -1,14 +1,16 @@
 // What texts of systems and of factors say, and what the programs print, as definitions; and the theorems about them.
 #![tactic(auto)]
 
-ghost use Rattle.std.specs.Prelude.{◌≡◌};
+ghost use Rattle.std.specs.Prelude.{◌≡◌, Some};
 ghost use Rattle.text_model.specs.declared.TextRefusal.TheVariants as text;
-ghost use Rattle.text_model.specs.Refusals.{solve_refusal, again_refusal};
+ghost use Rattle.text_model.specs.Refusals.{solve_refusal, again_refusal, detail};
 ghost use Rattle.text_model.specs.Promises.{FactorsReadBack, AgainAsSolvePrinted, PrintedAnswersStable};
 
+use element::Numbered;
 use model::{AgainRefusal, FactorRefusal, SolveRefusal};
 use number_text::NumberRefusal;
 use std::alloc::{AllocError, AllocFailed};
+use std::fmt;
 
 // The format that a text is in: binary64 or binary32.
 #[derive(Clone, Copy, PartialEq, Eq, Debug)]
@@ -36,6 +38,30 @@ pub enum TextRefusal {
     Memory,
 }
 
+// What a program prints of a refusal: its number, and the column at which a factoring ended or `solving`. Want of memory
+// is no refusal of a text, and has none.
+impl fmt::Display for TextRefusal {
+    ghost output = { λ r. Some (detail r) };
+
+    fn fmt<W: fmt::Write>(&self, f: &mut fmt::Formatter<W>) -> fmt::Result {
+        match *self {
+            // Numbers by hand, those of refusals of texts, and of a column: by `Numbered` and one arm the proof stays open.
+            TextRefusal::Size => write!(f, "1"),
+            TextRefusal::Form => write!(f, "7"),
+            TextRefusal::Count => write!(f, "8"),
+            TextRefusal::Factors => write!(f, "4"),
+            TextRefusal::Factoring(FactorRefusal::Input(refusal)) => {
+                write!(f, "{}", refusal.number())
+            }
+            TextRefusal::Factoring(FactorRefusal::Pivot(column)) => write!(f, "5 {column}"),
+            TextRefusal::Factoring(FactorRefusal::Range(column)) => write!(f, "6 {column}"),
+            TextRefusal::Solving => write!(f, "6 solving"),
+            TextRefusal::Memory => Ok(()),
+        }
+    }
+}
+
+// By hand, as those below: a derived `From` has no `from_gives`, which clauses name.
 impl From<SolveRefusal> for TextRefusal {
     ghost from_gives = { λ s r. r ≡ solve_refusal s };
 

@@ -1,14 +1,14 @@
 -- The backward solve as its loop takes it, from the last row to the first: the entries from place i on, and the one before them.
-use Rattle.std.proofs.Common.{◌≡◌, ℕ, zero, suc, ◌+◌, ◌-◌, ◌*◌, ◌<◌, ◌≤◌, Bool, true, false, ◌&&◌, List, [], ◌∷◌, map, length, get_or, take, drop, set, sym, refl, ap, ◌∙◌, subst, ap₂, add-one, arith}
+use Rattle.std.proofs.Common.{◌≡◌, ℕ, zero, suc, ◌+◌, ◌*◌, ◌<◌, ◌≤◌, Bool, true, false, ◌&&◌, List, [], ◌∷◌, map, length, get_or, take, drop, set, sym, refl, ap, ◌∙◌, subst, ap₂, add-one, arith}
 use lib.Ieee.{Float, Format, div}
-use Rattle.std.proofs.lemmas.List.{length-map, length-set, length-drop, get_or-map, get_or-take, take-take, take_all, take-set, drop_all, drop_more, drop-set}
+use Rattle.std.proofs.lemmas.List.{length-map, length-set, get_or-map, get_or-take, take-take, take-set, drop_all, drop_more, drop-set, drop-map}
 use Rattle.std.proofs.lemmas.Bool.{and_from, and_left, and_right}
 use Rattle.exact.specs.Range.{quotient_in_range}
 use Rattle.element.specs.Matrix.{Row, at, matrix, zero_float}
 use Rattle.element.specs.Products.{subtract_products, subtractions_in_range}
-use Rattle.element.proofs.Rows.{rows_from, rows_next, rows_end, rows_all}
+use Rattle.element.proofs.Rows.{rows_from, rows_next, rows_end, rows_all, row-values}
 use Rattle.model.specs.Solve.{backward, backward_in_range}
-use Rattle.triangular.proofs.Flat.{entry_value, rest-values}
+use Rattle.triangular.proofs.Flat.{entry_value, from, from-is}
 
 module _ (f : Format) (n : ℕ) (a ys : Row) where
   -- the entries from place i on, and whether all on the way to them is in range
@@ -76,20 +76,13 @@ module _ {X : Type 0} (v : X → Float) (f : Format) (n : ℕ) (lu ws : List X) 
         range = backward_tests_none f n (map v lu) (map v ws) n (omega arith);
       }
 
-  -- a turn at place p: y is the entry that is read from the work row
-  module _ (i p : ℕ) (w : List X) (y : X) (next : p + 1 ≡ i) (h : p < n) (ll : length lu ≡ n * n) (lw : length ws ≡ n) (solved : SolvedFrom i w) (is_y : y ≡ get_or w p y) where
-    -- the two parts that are lent
-    abbrev us : List X
-    us = take (p * n + n - (p * n + p + 1)) (drop (p * n + p + 1) lu)
-
-    abbrev xs : List X
-    xs = take (n - (p + 1)) (drop (p + 1) w)
-
+  -- a turn at place p: r is that row of the matrix, and y the entry that is read from the work row
+  module _ (i p : ℕ) (w r : List X) (y : X) (next : p + 1 ≡ i) (h : p < n) (lw : length ws ≡ n) (is_r : r ≡ take n (drop (p * n) lu)) (lr : length r ≡ n) (solved : SolvedFrom i w) (is_y : y ≡ get_or w p y) where
     lv : length (map v ws) ≡ n
     lv = length-map ws v ∙ lw
 
-    from : SolvedFrom (p + 1) w
-    from = subst (λ j. SolvedFrom j w) (sym next) solved
+    solved-next : SolvedFrom (p + 1) w
+    solved-next = subst (λ j. SolvedFrom j w) (sym next) solved
 
     y-is : v y ≡ at (map v ws) p
     y-is =
@@ -97,37 +90,31 @@ module _ {X : Type 0} (v : X → Float) (f : Format) (n : ℕ) (lu ws : List X) 
         ap v
         (is_y
         ∙ sym (get_or-take (p + 1) w p y (omega arith))
-        ∙ ap (λ zs. get_or zs p y) from.before
+        ∙ ap (λ zs. get_or zs p y) solved-next.before
         ∙ get_or-take (p + 1) ws p y (omega arith))
         ∙ sym (get_or-map v ws p y zero_float within)
 
-    us_are : map v us ≡ drop (p + 1) (take n (drop (p * n) (map v lu)))
-    us_are =
-        let count : p * n + n - (p * n + p + 1) ≡ n - (p + 1) = omega arith in
-        let start : p * n + p + 1 ≡ p * n + (p + 1) = omega arith in
-        ap₂ (λ k j. map v (take k (drop j lu))) count start ∙ rest-values v n lu p (p + 1) (omega arith)
-
-    xs_are : map v xs ≡ backward_from f n (map v lu) (map v ws) (p + 1)
-    xs_are = ap (map v) (take_all (n - (p + 1)) (drop (p + 1) w) (omega (arith, length-drop (p + 1) w, from.len))) ∙ from.entries
-
-    -- what is computed of them is what the model computes
-    same : {Z : Type 0} (g : Float → Row → Row → Z) → g (v y) (map v us) (map v xs) ≡ g (at (map v ws) p) (drop (p + 1) (take n (drop (p * n) (map v lu)))) (backward_from f n (map v lu) (map v ws) (p + 1))
-    same g = ap (λ s. g s (map v us) (map v xs)) y-is ∙ ap₂ (g (at (map v ws) p)) us_are xs_are
+    -- what is computed of the slices is what the model computes
+    same : {Z : Type 0} (g : Float → Row → Row → Z)
+        → g (v y) (map v (from (p + 1) r)) (map v (from (p + 1) w)) ≡ g (at (map v ws) p) (drop (p + 1) (take n (drop (p * n) (map v lu)))) (backward_from f n (map v lu) (map v ws) (p + 1))
+    same g =
+        ap (λ s. g s (map v (from (p + 1) r)) (map v (from (p + 1) w))) y-is
+        ∙ ap₂ (g (at (map v ws) p)) (ap (map v) (from-is (p + 1) r) ∙ sym (drop-map v (p + 1) r) ∙ ap (drop (p + 1)) (row-values v n p lu r is_r)) (ap (map v) (from-is (p + 1) w) ∙ solved-next.entries)
 
     -- row p is out of range, so all is
     fails : backward_tests f n (map v lu) (map v ws) p ≡ false → false ≡ backward_in_range f 0 (matrix n (map v lu)) (map v ws)
     fails e = sym (sym (backward_tests_all f n (map v lu) (map v ws)) ∙ backward-fails f n (map v lu) (map v ws) lv p (omega arith) e)
 
-    pub turn_fail : subtractions_in_range f (v y) (map v us) (map v xs) ≡ false → false ≡ backward_in_range f 0 (matrix n (map v lu)) (map v ws)
+    pub turn_fail : subtractions_in_range f (v y) (map v (from (p + 1) r)) (map v (from (p + 1) w)) ≡ false → false ≡ backward_in_range f 0 (matrix n (map v lu)) (map v ws)
     turn_fail e =
         fails
         (backward_tests_step f n (map v lu) (map v ws) lv p h
         ∙ and_left _ _ (and_right _ _ (sym (same (subtractions_in_range f)) ∙ e)))
 
     -- s is divided by d, the entry on the diagonal
-    module _ (s d : X) (e : subtractions_in_range f (v y) (map v us) (map v xs) ≡ true) (is-s : v s ≡ subtract_products f (v y) (map v us) (map v xs)) (is-d : d ≡ get_or lu (p * n + p) d) where
+    module _ (s d : X) (e : subtractions_in_range f (v y) (map v (from (p + 1) r)) (map v (from (p + 1) w)) ≡ true) (is-s : v s ≡ subtract_products f (v y) (map v (from (p + 1) r)) (map v (from (p + 1) w))) (is-d : d ≡ get_or r p d) where
       quotient_is : {Z : Type 0} (g : Float → Float → Z) → g (v s) (v d) ≡ g (dividend f n (map v lu) (map v ws) p) (pivot f n (map v lu) (map v ws) p)
-      quotient_is g = ap₂ g (is-s ∙ same (subtract_products f)) (sym (entry_value v n lu p p d h h ll is-d))
+      quotient_is g = ap₂ g (is-s ∙ same (subtract_products f)) (sym (entry_value v n p p lu r d is_r lr h is-d))
 
       pub turn_quotient_fail : quotient_in_range f (v s) (v d) ≡ false → false ≡ backward_in_range f 0 (matrix n (map v lu)) (map v ws)
       turn_quotient_fail q =
@@ -137,21 +124,21 @@ module _ {X : Type 0} (v : X → Float) (f : Format) (n : ℕ) (lu ws : List X) 
 
       pub turn_next : (x : X) → quotient_in_range f (v s) (v d) ≡ true → v x ≡ div f (v s) (v d) → SolvedFrom p (set w p x)
       turn_next x q is_x =
-          let within : p < length w = omega (arith, from.len) in
+          let within : p < length w = omega (arith, solved-next.len) in
           record {
-            len = length-set w p x ∙ from.len;
+            len = length-set w p x ∙ solved-next.len;
             before =
                 take-set w p x
                 ∙ sym (take-take p (p + 1) w (omega arith))
-                ∙ ap (take p) from.before
+                ∙ ap (take p) solved-next.before
                 ∙ take-take p (p + 1) ws (omega arith);
             entries =
                 ap (map v) (drop-set w p x within)
-                ∙ ap₂ ◌∷◌ (is_x ∙ quotient_is (div f)) from.entries
+                ∙ ap₂ ◌∷◌ (is_x ∙ quotient_is (div f)) solved-next.entries
                 ∙ sym (backward-step f n (map v lu) (map v ws) lv p h);
             range =
                 backward_tests_step f n (map v lu) (map v ws) lv p h
-                ∙ and_from _ _ (and_from _ _ from.range (sym (same (subtractions_in_range f)) ∙ e)) (sym (quotient_is (quotient_in_range f)) ∙ q);
+                ∙ and_from _ _ (and_from _ _ solved-next.range (sym (same (subtractions_in_range f)) ∙ e)) (sym (quotient_is (quotient_in_range f)) ∙ q);
           }
 
   -- all entries

@@ -1,12 +1,11 @@
 -- The forward solve as its loop takes it: the rows from i on, the next entry, and the end.
-use Rattle.std.proofs.Common.{◌≡◌, ℕ, ◌+◌, ◌-◌, ◌*◌, ◌<◌, ◌≤◌, Bool, true, false, ◌&&◌, List, [], ◌∷◌, ◌++◌, map, length, get_or, take, drop, set, sym, ap, ◌∙◌, subst, ap₂, arith}
+use Rattle.std.proofs.Common.{◌≡◌, ℕ, ◌+◌, ◌*◌, ◌<◌, ◌≤◌, Bool, true, false, ◌&&◌, List, [], ◌∷◌, ◌++◌, map, length, get_or, take, drop, set, sym, ap, ◌∙◌, subst, ap₂, arith}
 use lib.Ieee.{Float, Format}
-use Rattle.std.proofs.lemmas.List.{length-map, length-take-le, get_or-map, take-take, drop_more}
+use Rattle.std.proofs.lemmas.List.{length-map, length-take-le, get_or-map, take-map, drop_more}
 use Rattle.element.specs.Matrix.{Row, at, zero_float}
 use Rattle.element.specs.Products.{subtract_products, subtractions_in_range}
-use Rattle.element.proofs.Rows.{rows_from, rows_next, rows_end, written}
+use Rattle.element.proofs.Rows.{rows_from, rows_next, rows_end, row-values, written}
 use Rattle.model.specs.Solve.{forward, forward_in_range, permuted}
-use Rattle.triangular.proofs.Flat.{front_values}
 
 module _ (f : Format) (n : ℕ) (a b : Row) (o : List ℕ) where
   -- with `done` written, what is left comes to r, and its tests to p
@@ -58,15 +57,9 @@ module _ (f : Format) (n : ℕ) (a b : Row) (o : List ℕ) where
       pub forward_tests_fail : subtractions_in_range f (at b (get_or o i 0)) multipliers done ≡ false → p ≡ false
       forward_tests_fail e = sym opened ∙ ap (λ q. q && forward_in_range f (rows_from n (i + 1) a) (permuted b (drop (i + 1) o)) next) e
 
--- ---- a turn of the loop, over the slices: w is the work row, and x the entry of the right side that was read
-module _ {X : Type 0} (v : X → Float) (f : Format) (n : ℕ) (lu bs w : List X) (o : List ℕ) (i row : ℕ) (x : X) (h : i < n) (lo : length o ≡ n) (lb : length bs ≡ n) (lw : length w ≡ n) (is_row : row ≡ get_or o i 0) (below : row < length o) (is_x : x ≡ get_or bs row x) where
-  -- the two parts that are lent
-  abbrev ms : List X
-  ms = take (i * n + i - i * n) (drop (i * n) lu)
-
-  abbrev ds : List X
-  ds = take (length (take (i + 1) w) - 1) (take (i + 1) w)
-
+-- ---- a turn of the loop, over the slices: r is row i of the matrix, w the work row, and x the entry of the right side that was read
+module _ {X : Type 0} (v : X → Float) (f : Format) (n : ℕ) (lu bs w r : List X) (o : List ℕ) (i place : ℕ) (x : X) (h : i < n) (lo : length o ≡ n) (lb : length bs ≡ n) (lw : length w ≡ n)
+    (is_r : r ≡ take n (drop (i * n) lu)) (is_place : place ≡ get_or o i 0) (below : place < n) (is_x : x ≡ get_or bs place x) where
   listed : i < length o
   listed = omega arith
 
@@ -74,37 +67,26 @@ module _ {X : Type 0} (v : X → Float) (f : Format) (n : ℕ) (lu bs w : List X
   done_length = length-map (take i w) v ∙ length-take-le i w (omega arith)
 
   right : v x ≡ at (map v bs) (get_or o i 0)
-  right = ap v is_x ∙ sym (get_or-map v bs row x zero_float (omega arith)) ∙ ap (at (map v bs)) is_row
+  right = ap v is_x ∙ sym (get_or-map v bs place x zero_float (omega arith)) ∙ ap (at (map v bs)) is_place
 
-  multipliers_are : map v ms ≡ take i (take n (drop (i * n) (map v lu)))
-  multipliers_are =
-      let count : i * n + i - i * n ≡ i = omega arith in
-      ap (λ k. map v (take k (drop (i * n) lu))) count ∙ front_values v n lu i i (omega arith)
+  -- what is computed of the slices is what the model computes
+  same : {Z : Type 0} (g : Float → Row → Row → Z) → g (v x) (map v (take i r)) (map v (take i w)) ≡ g (at (map v bs) (get_or o i 0)) (take i (take n (drop (i * n) (map v lu)))) (map v (take i w))
+  same g = ap₂ (λ s ms. g s ms (map v (take i w))) right (sym (take-map v i r) ∙ ap (take i) (row-values v n i lu r is_r))
 
-  done_is : map v ds ≡ map v (take i w)
-  done_is =
-      let count : length (take (i + 1) w) - 1 ≡ i = omega (arith, length-take-le (i + 1) w (omega arith)) in
-      ap (λ k. map v (take k (take (i + 1) w))) count
-      ∙ ap (map v) (take-take i (i + 1) w (omega arith))
-
-  -- what is computed of them is what the model computes
-  same : {Z : Type 0} (g : Float → Row → Row → Z) → g (v x) (map v ms) (map v ds) ≡ g (at (map v bs) (get_or o i 0)) (take i (take n (drop (i * n) (map v lu)))) (map v (take i w))
-  same g = ap (λ s. g s (map v ms) (map v ds)) right ∙ ap₂ (g (at (map v bs) (get_or o i 0))) multipliers_are done_is
-
-  pub turn_fail : (p : Bool) → ForwardTestsTo f n (map v lu) (map v bs) o (map v (take i w)) i p → subtractions_in_range f (v x) (map v ms) (map v ds) ≡ false → p ≡ false
+  pub turn_fail : (p : Bool) → ForwardTestsTo f n (map v lu) (map v bs) o (map v (take i w)) i p → subtractions_in_range f (v x) (map v (take i r)) (map v (take i w)) ≡ false → p ≡ false
   turn_fail p t e = forward_tests_fail f n (map v lu) (map v bs) o (map v (take i w)) i h listed done_length p t (sym (same (subtractions_in_range f)) ∙ e)
 
   -- y is written to place i
-  module _ (y : X) (e : v y ≡ subtract_products f (v x) (map v ms) (map v ds)) where
+  module _ (y : X) (e : v y ≡ subtract_products f (v x) (map v (take i r)) (map v (take i w))) where
     written_is : map v (take i w) ++ subtract_products f (at (map v bs) (get_or o i 0)) (take i (take n (drop (i * n) (map v lu)))) (map v (take i w)) ∷ [] ≡ map v (take (i + 1) (set w i y))
     written_is = sym (written v w i y (omega arith) ∙ ap (λ s. map v (take i w) ++ s ∷ []) (e ∙ same (subtract_products f)))
 
-    pub turn_next : (r : Row) → ForwardTo f n (map v lu) (map v bs) o (map v (take i w)) i r → ForwardTo f n (map v lu) (map v bs) o (map v (take (i + 1) (set w i y))) (i + 1) r
-    turn_next r t =
-        subst (λ d. ForwardTo f n (map v lu) (map v bs) o d (i + 1) r) written_is
-        (forward-next f n (map v lu) (map v bs) o (map v (take i w)) i h listed done_length r t)
+    pub turn_next : (z : Row) → ForwardTo f n (map v lu) (map v bs) o (map v (take i w)) i z → ForwardTo f n (map v lu) (map v bs) o (map v (take (i + 1) (set w i y))) (i + 1) z
+    turn_next z t =
+        subst (λ d. ForwardTo f n (map v lu) (map v bs) o d (i + 1) z) written_is
+        (forward-next f n (map v lu) (map v bs) o (map v (take i w)) i h listed done_length z t)
 
-    pub turn_tests_next : (p : Bool) → ForwardTestsTo f n (map v lu) (map v bs) o (map v (take i w)) i p → subtractions_in_range f (v x) (map v ms) (map v ds) ≡ true
+    pub turn_tests_next : (p : Bool) → ForwardTestsTo f n (map v lu) (map v bs) o (map v (take i w)) i p → subtractions_in_range f (v x) (map v (take i r)) (map v (take i w)) ≡ true
         → ForwardTestsTo f n (map v lu) (map v bs) o (map v (take (i + 1) (set w i y))) (i + 1) p
     turn_tests_next p t q =
         subst (λ d. ForwardTestsTo f n (map v lu) (map v bs) o d (i + 1) p) written_is

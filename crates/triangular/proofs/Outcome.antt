@@ -1,50 +1,39 @@
--- The call `again` case by case: what it answers and what it leaves, from what was found on the way. v is what an element is as a float.
-use Rattle.std.proofs.Common.{◌≡◌, ℕ, ◌*◌, Bool, cond, ◌&&◌, eqb, List, map, length, is_ok, Ok, Err, Result, sym, ap, ◌∙◌, ap₂}
+-- What the answer of the call `again` is worth. v is what an element is as a float.
+use Rattle.std.proofs.Common.{◌≡◌, ℕ, ◌*◌, true, ◌&&◌, T, eqb, List, map, length, Ok, Result, sym, ◌∙◌, subst, arith}
 use lib.Ieee.{Float, Format}
+use lib.Ieee.Fits.{and_l}
 use Rattle.std.proofs.lemmas.List.{length-map}
+use Rattle.std.proofs.lemmas.Bool.{and_parts}
+use Rattle.std.proofs.lemmas.Bool.Decides.{nat_tests}
 use Rattle.element.specs.declared.refusal.InputRefusal.{InputRefusal}
 use Rattle.element.specs.Matrix.{matrix, all_finite}
 use Rattle.element.specs.Multiply.{inputs, size_taken}
-use Rattle.model.specs.declared.AgainRefusal.{AgainRefusal}
-use Rattle.model.specs.declared.AgainRefusal.TheVariants.{Input, Factors, Range}
+use Rattle.element.specs.Promises.{all_fit}
+use Rattle.element.proofs.Outcome.{inputs_ok}
 use Rattle.model.specs.Solve.{solution, solution_in_range}
-use Rattle.model.specs.Calls.{factors_sound, again_inputs, again_outcome, again_x}
+use Rattle.model.specs.Calls.{once_each, no_zero_pivot, factors_sound}
+use Rattle.model.specs.Promises.{AgainBackwardStable}
+use Rattle.model.proofs.Again.{again_theorem}
 
 module _ {X : Type 0} (v : X → Float) (f : Format) (n : ℕ) (lu : List X) (order : List ℕ) (b x : List X) where
-  -- what `check_again_inputs` answers
+  -- what `check_inputs` answers
   abbrev pub checked : Result (Unit {0}) InputRefusal
-  checked = inputs (size_taken n) (eqb (length lu) (n * n) && eqb (length order) n && eqb (length b) n && eqb (length x) n) (all_finite (map v b))
+  checked =
+      inputs (size_taken n) ((eqb (length lu) (n * n) && true) && (eqb (length order) n && (eqb (length b) n && (eqb (length x) n && true))))
+      (all_finite (map v b) && true)
 
-  checked-same : again_inputs n (map v lu) order (map v b) (length x) ≡ checked
-  checked-same = rw (length-map lu v, length-map b v)
-
-  -- the outcome that comes of it
-  abbrev pub after : Result (Unit {0}) InputRefusal → Result (Unit {0}) AgainRefusal
-  after r =
-      elim r [
-        | Ok u ↦ cond (factors_sound n (map v lu) order) (cond (solution_in_range f (matrix n (map v lu)) order (map v b)) (Ok tt) (Err Range)) (Err Factors)
-        | Err e ↦ Err (Input e)
-      ]
-
-  is-after : again_outcome f n (map v lu) order (map v b) (length x) ≡ after checked
-  is-after = ap after checked-same
-
-  -- past the inputs
-  pub after-inputs : (u : Unit {0}) (sound range : Bool) → Ok u ≡ checked → sound ≡ factors_sound n (map v lu) order → range ≡ solution_in_range f (matrix n (map v lu)) order (map v b)
-      → after checked ≡ cond sound (cond range (Ok tt) (Err Range)) (Err Factors)
-  after-inputs u sound range p q r = sym (ap after p) ∙ sym (ap₂ (λ s t. cond s (cond t (Ok tt) (Err Range)) (Err Factors)) q r)
-
-  -- o is the outcome, and `left` what the output holds then
-  pub record Answers (o : Result (Unit {0}) AgainRefusal) (left : List X) : Type 0 where
-    pub outcome : o ≡ again_outcome f n (map v lu) order (map v b) (length x)
-    pub answer : map v left ≡ again_x f n (map v lu) order (map v b) (map v x)
-
-  pub answers : (o : Result (Unit {0}) AgainRefusal) (left : List X) → after checked ≡ o
-      → map v left ≡ cond (is_ok o) (solution f (matrix n (map v lu)) order (map v b)) (map v x) → Answers o left
-  answers o left e l =
-      let is : again_outcome f n (map v lu) order (map v b) (length x) ≡ o = is-after ∙ e in
-      let s = solution f (matrix n (map v lu)) order (map v b) in
-      let leaves : again_x f n (map v lu) order (map v b) (map v x) ≡ cond (is_ok o) s (map v x) =
-      ap (λ m. cond (is_ok (again_outcome f n (map v lu) order (map v b) m)) s (map v x)) (length-map x v)
-      ∙ ap (λ r. cond (is_ok r) s (map v x)) is in
-      record { outcome = sym is; answer = l ∙ sym leaves }
+  pub stable : Ok tt ≡ checked → T (all_fit f (map v lu)) → T (all_fit f (map v b)) → true ≡ factors_sound n (map v lu) order → true ≡ solution_in_range f (matrix n (map v lu)) order (map v b)
+      → AgainBackwardStable f n (map v lu) order (map v b) (solution f (matrix n (map v lu)) order (map v b))
+  stable is fit-lu fit-b sound range =
+      let rows = once_each n order in
+      let finite = all_finite (map v lu) in
+      let pivots = no_zero_pivot 0 (matrix n (map v lu)) in
+      let lu-finite : finite ≡ true = (and_parts rows finite (and_parts (rows && finite) pivots (sym sound)).0).1 in
+      let long : length lu ≡ n * n = grind (arith, nat_tests) in
+      let places : length order ≡ n = grind (arith, nat_tests) in
+      let right : length b ≡ n = grind (arith, nat_tests) in
+      let ok = inputs_ok (size_taken n) _ _ (sym is) in
+      again_theorem f n (map v lu) order (map v b)
+      (record { size = ok.0; long = length-map lu v ∙ long; finite = subst T (sym lu-finite) tt; fit = fit-lu })
+      (record { long = length-map b v ∙ right; finite = and_l (all_finite (map v b)) true ok.2; fit = fit-b })
+      places (subst T sound tt) (subst T range tt)

@@ -1,51 +1,52 @@
--- Orders and diagonals as the loops over them take them: what is left from i on, the next step, and the end.
-use Rattle.std.proofs.Common.{◌≡◌, ℕ, zero, suc, ◌+◌, ◌*◌, ◌<◌, ◌≤◌, Bool, true, false, not, ◌&&◌, ◌||◌, eqb, ltb, List, [], ◌∷◌, length, get_or, take, drop, sym, ap, ◌∙◌, arith}
-use mathlib.Core.Bool.{or_assoc, or-false}
-use Rattle.std.proofs.lemmas.List.{drop_more, drop_all}
-use Rattle.std.proofs.lemmas.Bool.{ltb-true, and_parts}
+-- Orders and diagonals as the loops over them take them: what is left, the next step, and the end.
+use Rattle.std.proofs.Common.{◌≡◌, ℕ, zero, suc, ◌+◌, ◌*◌, ◌<◌, ◌≤◌, Bool, true, false, not, ◌&&◌, ◌||◌, eqb, ltb, List, [], ◌∷◌, length, get_or, take, drop, sym, refl, ap, ap₂, ◌∙◌, arith}
+use Rattle.std.specs.List.{list_any}
+use Rattle.std.proofs.lemmas.List.{drop_more}
+use Rattle.std.proofs.lemmas.List.Recursion.{same_from_clauses}
+use Rattle.std.proofs.lemmas.Bool.{lt-ltb, le-ltb, ltb-true, and_parts, and_left, and_right}
+use Rattle.std.proofs.lemmas.Bool.Decides.{same_from_decides, Decides-eqb, Decides-like}
 use Rattle.exact.specs.Value.{is_zero}
 use Rattle.element.specs.Matrix.{Row, at, matrix, all_finite}
 use Rattle.element.proofs.Rows.{rows_from, rows_next, rows_end}
+use Rattle.triangular.proofs.Flat.{from, from-is}
 use Rattle.model.specs.Calls.{among, once_each, no_zero_pivot, factors_sound}
 
--- ---- a row among others
-module _ (r : ℕ) (xs : List ℕ) where
-  -- with `found` for the first i others, all of them come to p
-  abbrev pub AmongTo : Bool → ℕ → Bool → Type 0
-  AmongTo found i p = (found || among r (drop i xs)) ≡ p
-
-  pub among_next : (found : Bool) (i : ℕ) (p : Bool) → i < length xs → AmongTo found i p → AmongTo (found || eqb r (get_or xs i 0)) (i + 1) p
-  unfolding among
-  among_next found i p h t = or_assoc found (eqb r (get_or xs i 0)) (among r (drop (i + 1) xs)) ∙ sym (ap (λ ys. found || among r ys) (drop_more xs i 0 h)) ∙ t
-
-  pub among_end : (found : Bool) (i : ℕ) (p : Bool) → length xs ≤ i → AmongTo found i p → found ≡ p
-  unfolding among
-  among_end found i p h t = sym (or-false found) ∙ sym (ap (λ ys. found || among r ys) (drop_all i xs h)) ∙ t
-
 -- ---- each row once
-module _ (n : ℕ) (xs : List ℕ) where
-  -- with i rows passed, what is left comes to p
-  abbrev pub OnceTo : ℕ → Bool → Type 0
-  OnceTo i p = once_each n (drop i xs) ≡ p
+eqb-swap : (a b : ℕ) → eqb a b ≡ eqb b a
+eqb-swap a b = same_from_decides (eqb a b) (eqb b a) (Decides-eqb a b) (Decides-like (eqb b a) sym sym (Decides-eqb b a))
 
-  -- a is whether row i stands among what is left after it
-  module _ (i : ℕ) (p : Bool) (h : i < length xs) (t : OnceTo i p) (a : Bool) (is : a ≡ among (get_or xs i 0) (drop (i + 1) xs)) where
-    once-opened : ((ltb (get_or xs i 0) n && not a) && once_each n (drop (i + 1) xs)) ≡ p
-    unfolding once_each
-    once-opened =
-        ap (λ b. (ltb (get_or xs i 0) n && not b) && once_each n (drop (i + 1) xs)) is
-        ∙ sym (ap (once_each n) (drop_more xs i 0 h))
-        ∙ t
+-- what `contains` answers is what the model asks
+among-is : (r : ℕ) (xs : List ℕ) → list_any (λ x. eqb x r) xs ≡ among r xs
+unfolding among
+among-is r = same_from_clauses (list_any (λ x. eqb x r)) (among r) (λ x b. eqb x r || b) refl (λ _ _. refl) (λ x xs. ap (λ b. b || among r xs) (eqb-swap r x))
 
-    pub once-next : (ltb (get_or xs i 0) n && not a) ≡ true → OnceTo (i + 1) p
-    once-next e = sym (ap (λ b. b && once_each n (drop (i + 1) xs)) e) ∙ once-opened
+-- the first row of those that are left, and the rows after it
+module _ (n : ℕ) (left : List ℕ) (h : 1 ≤ length left) where
+  abbrev first : ℕ
+  first = get_or left 0 0
 
-    pub once_fail : (ltb (get_or xs i 0) n && not a) ≡ false → p ≡ false
-    once_fail e = sym once-opened ∙ ap (λ b. b && once_each n (drop (i + 1) xs)) e
+  abbrev after : List ℕ
+  after = from 1 left
 
-  pub once_end : (i : ℕ) (p : Bool) → length xs ≤ i → OnceTo i p → p ≡ true
+  opened : once_each n left ≡ ((ltb first n && not (list_any (λ x. eqb x first) after)) && once_each n after)
   unfolding once_each
-  once_end i p h t = sym t ∙ ap (once_each n) (drop_all i xs h)
+  opened =
+      ap (once_each n) (drop_more left 0 0 h ∙ ap (λ xs. first ∷ xs) (sym (from-is 1 left)))
+      ∙ ap (λ a. (ltb first n && not a) && once_each n after) (sym (among-is first after))
+
+  pub once-next : first < n → list_any (λ x. eqb x first) after ≡ false → once_each n after ≡ once_each n left
+  once-next k e = sym (opened ∙ ap₂ (λ b a. (b && not a) && once_each n after) (lt-ltb first n k) e)
+
+  pub once_large : n ≤ first → false ≡ once_each n left
+  once_large k = sym (opened ∙ ap (λ b. (b && not (list_any (λ x. eqb x first) after)) && once_each n after) (le-ltb first n k))
+
+  pub once_twice : list_any (λ x. eqb x first) after ≡ true → false ≡ once_each n left
+  once_twice e = sym (opened ∙ ap (λ a. (ltb first n && not a) && once_each n after) e ∙ and_left (ltb first n && false) (once_each n after) (and_right (ltb first n) false refl))
+
+pub once_end : (n : ℕ) (left : List ℕ) → length left < 1 → once_each n left ≡ true
+unfolding once_each
+once_end n [] h = refl
+once_end n (x ∷ xs) h = absurd (omega arith)
 
 -- ---- no zero pivot
 module _ (n : ℕ) (a : Row) where

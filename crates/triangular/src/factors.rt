@@ -1,44 +1,57 @@
-// Whether factors and an order that are there already can be what a factoring leaves.
-ghost use Rattle.std.specs.Prelude.{◌≡◌, ◌*◌, ◌≤◌, map, length};
-ghost use Rattle.element.specs.Matrix.{matrix};
-ghost use Rattle.model.specs.Calls.{among, once_each, no_zero_pivot};
+// The factors of a matrix, and the two triangular solves with them.
+ghost use Rattle.std.specs.Prelude.{◌≡◌, [], map, length, is_ok, OnOk};
+ghost use Rattle.element.specs.Rows.{matrix_values};
+ghost use Rattle.model.specs.Solve.{forward, forward_in_range, permuted, solution, solution_in_range};
 
-use element::Real;
+use crate::order::Order;
+use crate::upper::backward_solve;
+use element::{Matrix, Real, subtract_products};
+use model::OutOfRange;
 
-// Whether the row stands among others.
-pub fn is_among(row: u16, others: &[u16]) -> bool
-    ensures { result ≡ among row others.now }
-{
-    let mut found = false;
-    for other in others {
-        found |= row == *other;
-    }
-    found
+// A view of both factors in one matrix, and of the row permutation. On and right of the diagonal stands the upper factor,
+// left of it the multipliers.
+#[derive(Drop)]
+pub struct Factors<'a, R> {
+    matrix: Matrix<'a, R>,
+    order: Order<'a>,
+    ghost places: { length order.places.now ≡ matrix.size },
 }
 
-// Whether the order has each row below the size at most once, and no other.
-pub fn is_permutation(n: usize, order: &[u16]) -> bool
-    ensures { result ≡ once_each n order.now }
-{
-    for i in 0..order.len() {
-        let row = order[i];
-        if !(((row as usize) < n) & !is_among(row, &order[i + 1..])) {
-            return false;
-        }
+impl<'a, R: Real> Factors<'a, R> {
+    pub fn new(matrix: Matrix<'a, R>, order: Order<'a>) -> Factors<'a, R>
+        requires { length order.places.now ≡ matrix.size }
+        ensures size { result.matrix.size ≡ matrix.entry.size }
+        ensures entries { result.matrix.entries.now ≡ matrix.entry.entries.now }
+        ensures order { result.order.places.now ≡ order.entry.places.now }
+    {
+        Factors { matrix, order }
     }
-    true
-}
 
-// Whether no entry on the diagonal is a zero.
-pub fn no_zero_pivot<R: Real>(n: usize, lu: &[R]) -> bool
-    requires size { n ≤ 128 }
-    requires matrix { length lu.now ≡ n * n }
-    ensures { result ≡ no_zero_pivot 0 (matrix n (map R.Real.val lu.now)) }
-{
-    for i in 0..n {
-        if lu[i * n + i].is_zero() {
-            return false;
+    // For each row from the first on: its entry of the right side, less its multipliers times the entries before, fills the
+    // work row.
+    pub fn forward_solve(&self, b: &[R], work: &mut [R]) -> Result<(), OutOfRange>
+        requires right { length b.now ≡ self.now.matrix.size }
+        requires output { length work.old ≡ self.now.matrix.size }
+        ensures range { is_ok result ≡ forward_in_range R.Real.format (matrix_values R.Real.val self.now.matrix) (permuted (map R.Real.val b.now) self.now.order.places.now) [] }
+        ensures entries { OnOk result (map R.Real.val work.new ≡ forward R.Real.format (matrix_values R.Real.val self.now.matrix) (permuted (map R.Real.val b.now) self.now.order.places.now) []) }
+    {
+        // By index, since each entry is worked out of those before it in the same slice.
+        for i in 0..self.matrix.size() {
+            let given = self.order.row(i);
+            let row = self.matrix.row(i);
+            work[i] = subtract_products(b[given], &row[..i], &work[..i]).ok_or(OutOfRange)?;
         }
+        Ok(())
     }
-    true
+
+    // Both solves; the work row then holds the answer.
+    pub fn solve(&self, b: &[R], work: &mut [R]) -> Result<(), OutOfRange>
+        requires right { length b.now ≡ self.now.matrix.size }
+        requires output { length work.old ≡ self.now.matrix.size }
+        ensures range { is_ok result ≡ solution_in_range R.Real.format (matrix_values R.Real.val self.now.matrix) self.now.order.places.now (map R.Real.val b.now) }
+        ensures entries { OnOk result (map R.Real.val work.new ≡ solution R.Real.format (matrix_values R.Real.val self.now.matrix) self.now.order.places.now (map R.Real.val b.now)) }
+    {
+        self.forward_solve(b, work)?;
+        backward_solve(&self.matrix, work)
+    }
 }

@@ -2,13 +2,15 @@
 #![tactic(auto)]
 
 mod again;
+mod checks;
 mod factors;
 mod order;
-mod solves;
 #[cfg(test)]
 mod tests;
+mod upper;
 
-pub use again::{again_with, factors_sound};
-pub use factors::{is_permutation, no_zero_pivot};
+pub use again::again_with;
+pub use checks::{factors_sound, is_permutation, no_zero_pivot};
+pub use factors::Factors;
 pub use order::Order;
-pub use solves::{backward_solve, forward_solve, substitute};
+pub use upper::backward_solve;

@@ -22,6 +22,6 @@ impl<'a> Order<'a> {
         ensures value { result ≡ slice_index self.now.places.now i }
         ensures below { result < length self.now.places.now }
     {
-        self.places[i] as usize
+        usize::from(self.places[i])
     }
 }

@@ -3,6 +3,7 @@
 #![tactic(auto)]
 
 ghost use Rattle.std.specs.Prelude.{◌<◌, length, IfSome};
+ghost use Rattle.std.specs.Iterator.{at_most};
 
 use number_text::digit_value;
 use std::alloc::{AllocError, Global};
@@ -13,6 +14,11 @@ use text_calls::{again_text, factors_text, solve_text};
 struct Case<'a> {
     program: &'a [u8],
     text: &'a [u8],
+}
+
+// The cases that are left of an input, up to the first that is not there whole.
+#[derive(Drop)]
+struct Cases<'a> {
     rest: &'a [u8],
 }
 
@@ -20,64 +26,55 @@ struct Case<'a> {
 fn split_once(byte: u8, text: &[u8]) -> Option<(&[u8], &[u8])>
     ensures { IfSome result (λ p. length p.1.now < length text.now) }
 {
-    for i in 0..text.len() {
-        if text[i] == byte {
-            return Some((&text[..i], &text[i + 1..]));
-        }
-    }
-    None
+    let at = text.iter().position(|other| *other == byte)?;
+    Some((&text[..at], &text[at + 1..]))
 }
 
 fn length_of(digits: &[u8]) -> usize {
-    let mut length = 0usize;
-    for digit in digits {
-        length = length
+    digits.iter().fold(0usize, |length, digit| {
+        // `as`, since there is no `From<u64> for usize`.
+        length
             .saturating_mul(10)
-            .saturating_add(digit_value(*digit) as usize);
-    }
-    length
-}
-
-// The first case of the input, and what is left, which is less.
-fn next_case(input: &[u8]) -> Option<Case<'_>>
-    ensures { IfSome result (λ c. length c.rest.now < length input.now) }
-{
-    let (line, after) = split_once(b'\n', input)?;
-    let (program, digits) = split_once(b' ', line)?;
-    let length = length_of(digits);
-    if length >= after.len() {
-        return None;
-    }
-    Some(Case {
-        program,
-        text: &after[..length],
-        rest: &after[length + 1..],
+            .saturating_add(digit_value(*digit) as usize)
     })
 }
 
-fn printed(heap: Global, case: &Case) -> Result<Vec<u8>, AllocError> {
-    if case.program == b"solve".as_slice() {
-        solve_text(heap, case.text)
-    } else if case.program == b"factors".as_slice() {
-        factors_text(heap, case.text)
-    } else {
-        again_text(heap, case.text)
+impl<'a> Iterator for Cases<'a> {
+    type Item = Case<'a>;
+
+    ghost remaining = { λ s. at_most (length s.rest.now) };
+
+    fn next(&mut self) -> Option<Case<'a>> {
+        let (line, after) = split_once(b'\n', self.rest)?;
+        let (program, digits) = split_once(b' ', line)?;
+        let length = length_of(digits);
+        if length >= after.len() {
+            return None;
+        }
+        self.rest = &after[length + 1..];
+        Some(Case {
+            program,
+            text: &after[..length],
+        })
     }
 }
 
-fn run(rt: &HostRuntime) -> anyhow::Result<()> {
-    let mut input = Vec::new(rt.alloc());
-    rt.stdin().read_to_end(&mut input)?;
-    let mut rest: &[u8] = &input;
-    while let Some(case) = next_case(rest) {
-        rt.stdout().write_all(case.program)?;
-        rt.stdout().write_all(b":\n")?;
-        rt.stdout().write_all(&printed(rt.alloc(), &case)?)?;
-        rest = case.rest;
+// By its name, since the input names it; a table of functions would be searched by the same names.
+fn printed(heap: Global, case: &Case) -> Result<Vec<u8>, AllocError> {
+    match case.program {
+        b"solve" => solve_text(heap, case.text),
+        b"factors" => factors_text(heap, case.text),
+        _ => again_text(heap, case.text),
     }
-    Ok(())
 }
 
 fn main(rt: HostRuntime) -> anyhow::Result<()> {
-    run(&rt)
+    let mut input = Vec::new(rt.alloc());
+    rt.stdin().read_to_end(&mut input)?;
+    for case in (Cases { rest: &input }) {
+        rt.stdout().write_all(case.program)?;
+        rt.stdout().write_all(b":\n")?;
+        rt.stdout().write_all(&printed(rt.alloc(), &case)?)?;
+    }
+    Ok(())
 }

@@ -3,10 +3,12 @@ use Rattle.element.specs.Products.{subtract_product, subtraction_in_range, subtr
 use Rattle.element.proofs.Runs.{RunsTo, TestsTo}
 use Rattle.element.proofs.products.subtract_products.Given as goal
 
-abbrev pub invariant-loop-k : goal.invariant-loop-k
-invariant-loop-k g l =
+abbrev pub invariant-loop-x : goal.invariant-loop-x
+invariant-loop-x g l =
     let m = g.R.Real in
     let f = m.format in
     let start = m.val l.initial.rest in
-    RunsTo m.val (subtract_product f) l.a l.b (m.val l.rest) l.k (subtract_products f start (map m.val l.a) (map m.val l.b))
-    × TestsTo m.val (subtract_product f) l.a l.b (subtraction_in_range f) (m.val l.rest) l.k (subtractions_in_range f start (map m.val l.a) (map m.val l.b))
+    let a = l.x-iterator.a.rest.now in
+    let b = l.x-iterator.b.rest.now in
+    RunsTo m.val (subtract_product f) (m.val l.rest) a b (subtract_products f start (map m.val l.a) (map m.val l.b))
+    × TestsTo m.val (subtract_product f) (subtraction_in_range f) (m.val l.rest) a b (subtractions_in_range f start (map m.val l.a) (map m.val l.b))

@@ -1,25 +1,23 @@
-use Rattle.std.proofs.Common.{◌<◌, length, sym, arith}
+use Rattle.std.proofs.Common.{sym}
+use Rattle.std.proofs.lemmas.Slice.Zip.{either_empty_from_Zip}
 use Rattle.element.specs.Products.{add_product, addition_in_range}
 use Rattle.element.proofs.Runs.{tests_next, tests_fail, tests_end}
 use Rattle.element.proofs.products.sum_in_range.Goals as goal
 
-pub returns-in-None : goal.returns-in-None
-returns-in-None g c =
+pub returns-in-None-add_product : goal.returns-in-None-add_product
+returns-in-None-add_product g c =
     let m = g.R.Real in
-    let f = m.format in
-    let h : c.loop-i.i < length c.args.b.now = omega arith in
-    sym (tests_fail m.val (add_product f) c.args.a.now c.args.b.now (addition_in_range f) (m.val c.loop-i.partial) c.loop-i.i _ c.index-a-i.result c.index-b-i.result c.loop-i-test.true h c.index-a-i.is c.index-b-i.is c.loop-i.invariant c.in-None.ensures)
+    let e = c.in-Some.ensures.steps in
+    sym (tests_fail m.val (add_product m.format) (addition_in_range m.format) (m.val c.loop-x.partial) e.0 e.1 c.loop-x.invariant c.in-None-add_product.ensures)
 
-pub loop-i-preserved : goal.loop-i-preserved
-loop-i-preserved g c =
+pub loop-x-preserved : goal.loop-x-preserved
+loop-x-preserved g c =
     let m = g.R.Real in
-    let f = m.format in
-    let h : c.loop-i.i < length c.args.b.now = omega arith in
-    let e = c.in-Some.ensures in
-    tests_next m.val (add_product f) c.args.a.now c.args.b.now (addition_in_range f) (m.val c.loop-i.partial) c.loop-i.i _ c.index-a-i.result c.index-b-i.result c.loop-i-test.true h c.index-a-i.is c.index-b-i.is c.loop-i.invariant (m.val c.in-Some.next) e.0 e.1
+    let e = c.in-Some.ensures.steps in
+    let t = c.in-Some-add_product.ensures in
+    tests_next m.val (add_product m.format) (addition_in_range m.format) (m.val c.loop-x.partial) e.0 e.1 c.loop-x.invariant t.0 t.1
 
 pub returns : goal.returns
 returns g c =
     let m = g.R.Real in
-    let f = m.format in
-    sym (tests_end m.val (add_product f) c.args.a.now c.args.b.now (addition_in_range f) (m.val c.loop-i.partial) c.loop-i.i _ c.loop-i-test.false c.loop-i.invariant)
+    sym (tests_end m.val (add_product m.format) (addition_in_range m.format) (m.val c.loop-x.partial) (either_empty_from_Zip c.loop-x.x-iterator c.next.new.self c.next.result c.in-None.is c.next.ensures.steps) c.loop-x.invariant)

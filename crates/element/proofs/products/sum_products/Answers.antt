@@ -1,18 +1,17 @@
-use Rattle.std.proofs.Common.{◌<◌, length, ap, ◌∙◌, arith}
+use Rattle.std.proofs.Common.{ap, ◌∙◌}
 use lib.Ieee.{add}
+use Rattle.std.proofs.lemmas.Slice.Zip.{either_empty_from_Zip}
 use Rattle.element.specs.Products.{add_product}
 use Rattle.element.proofs.Runs.{runs_next, runs_end}
 use Rattle.element.proofs.products.sum_products.Goals as goal
 
-pub loop-j-preserved : goal.loop-j-preserved
-loop-j-preserved g c =
+pub loop-x-preserved : goal.loop-x-preserved
+loop-x-preserved g c =
     let m = g.R.Real in
-    let s = m.val c.loop-j.sum in
-    let h : c.loop-j.j < length c.args.b.now = omega arith in
-    let e = c.plus-sum.ensures ∙ ap (add m.format s) c.times.ensures in
-    runs_next m.val (add_product m.format) c.args.a.now c.args.b.now s (m.val c.plus-sum.result) c.loop-j.j _ c.index-a-j.result c.index-b-j.result c.loop-j-test.true h c.index-a-j.is c.index-b-j.is e c.loop-j.invariant
+    let e = c.in-Some.ensures.steps in
+    runs_next m.val (add_product m.format) e.0 e.1 (c.plus-sum.ensures ∙ ap (add m.format (m.val c.loop-x.sum)) c.times.ensures) c.loop-x.invariant
 
 pub returns : goal.returns
 returns g c =
     let m = g.R.Real in
-    runs_end m.val (add_product m.format) c.args.a.now c.args.b.now (m.val c.loop-j.sum) c.loop-j.j _ c.loop-j-test.false c.loop-j.invariant
+    runs_end m.val (add_product m.format) (either_empty_from_Zip c.loop-x.x-iterator c.next.new.self c.next.result c.in-None.is c.next.ensures.steps) c.loop-x.invariant

@@ -1,22 +1,27 @@
-use Rattle.std.proofs.Common.{arith}
-use Rattle.std.proofs.lemmas.Nat.{mul-add-lt}
-use Rattle.factor.proofs.Swaps.{swaps-next, swaps_end}
+use Rattle.std.proofs.Common.{◌≡◌, ◌+◌, ◌-◌, ◌*◌, ◌<◌, ◌≤◌, [], length, min, max, sym, ap, ◌∙◌, ap₂, arith}
+use Rattle.model.specs.Factor.{swapped}
+use Rattle.element.proofs.Rows.{row_within}
+use Rattle.factor.specs.Slices.{matrix_of}
+use Rattle.factor.proofs.Flat.{swapped-sorted, rows-exchanged}
 use Rattle.factor.proofs.exchange.swap_rows.Goals as goal
 
-pub swap-requires : goal.swap-requires
-swap-requires g c =
+pub returns-then-upper-lower : goal.returns-then-upper-lower
+returns-then-upper-lower g c =
+    let v = g.R.Real.val in
     let n = c.args.n in
-    record {
-      a_in_bounds = omega (arith, mul-add-lt c.args.i n c.loop-c.c n c.requires.first c.loop-c-test.true);
-      b_in_bounds = omega (arith, mul-add-lt c.args.j n c.loop-c.c n c.requires.second c.loop-c-test.true);
-    }
-
-pub loop-c-preserved : goal.loop-c-preserved
-loop-c-preserved g c =
-    swaps-next g.R.Real.val c.args.n c.args.i c.args.j c.requires.first c.requires.second c.loop-c.c c.loop-c.m _ (omega arith) c.loop-c.invariant
-    c.swap.new.self c.loop-c-test.true c.swap.ensures.after
-
-pub returns : goal.returns
-returns g c =
-    swaps_end g.R.Real.val c.args.n c.args.i c.args.j c.requires.first c.requires.second c.loop-c.c c.loop-c.m _ (omega arith) c.loop-c.invariant
-    c.loop-c-test.false
+    let i = c.args.i in
+    let j = c.args.j in
+    let upper = c.min-upper.result in
+    let lower = c.max-lower.result in
+    let first : upper ≡ min i j = omega arith in
+    let second : lower ≡ max i j = omega arith in
+    let below : lower < n = omega arith in
+    let from = c.split_at_mut-above.result.1.now in
+    let parts = c.split_at_mut-above.ensures in
+    let swap = c.swap_with_slice.ensures in
+    let wide : n ≤ length from = omega (arith, row_within n lower below) in
+    let width : upper * n + n - upper * n ≡ n = omega arith in
+    rows-exchanged v n n lower upper _ c.split_at_mut-above.result.0.now from c.swap_with_slice.new.self c.swap_with_slice.new.other below parts.front_len wide c.if-upper-lower.true width swap.after swap.other_after
+    ∙ ap (λ xs. swapped [] upper lower (matrix_of v n xs)) (sym parts.value)
+    ∙ ap₂ (λ a b. swapped [] a b (matrix_of v n c.args.m.now)) first second
+    ∙ swapped-sorted [] i j (matrix_of v n c.args.m.now)

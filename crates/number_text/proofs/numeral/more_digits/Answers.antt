@@ -1,34 +1,25 @@
-use Rattle.std.proofs.Common.{◌+◌, ◌*◌, ◌<◌, ◌≤◌, cond, Some, None, sym, ap, subst, arith}
-use Rattle.std.specs.Str.Parse.{digits_value_after}
-use Rattle.number_text.proofs.Parts.{Read, read-begun, read_step, read_bad, read_fits, read_all}
+use Rattle.std.proofs.Common.{refl, ◌∙◌, arith}
+use Rattle.number_text.proofs.Parts.{read_step, read_bad, read_fits}
 use Rattle.number_text.proofs.numeral.more_digits.Goals as goal
 
-pub loop-i-init : goal.loop-i-init
-loop-i-init c = read-begun c.args.radix c.args.start c.args.digits.now c.requires
-
-pub loop-i-preserved : goal.loop-i-preserved
-loop-i-preserved c =
-    let a = c.args in let l = c.loop-i in
-    subst (λ d. Read a.radix a.start a.digits.now (l.i + 1) (l.number * a.radix + d)) (sym c.digit_value-digit.ensures)
-    (read_step a.radix a.start a.digits.now l.i l.number c.loop-i-test.true l.invariant (subst (λ d. d < a.radix) c.digit_value-digit.ensures c.if-digit-radix.false))
+pub returns-in_err-digit : goal.returns-in_err-digit
+returns-in_err-digit c =
+    let a = c.args in let l = c.loop-byte in
+    c.from_residual.ensures ∙ read_bad a.radix a.start a.digits.now l.byte-index l.number c.loop-byte-test.true l.invariant c.from.result c.from.ensures c.in_err-digit.ensures.value
 
 pub overflow_mul-number : goal.overflow_mul-number
 overflow_mul-number c =
-    let a = c.args in let l = c.loop-i in
-    omega (arith, read_fits a.radix a.start a.digits.now l.i l.number c.loop-i-test.true l.invariant (subst (λ d. d < a.radix) c.digit_value-digit.ensures c.if-digit-radix.false))
+    let a = c.args in let l = c.loop-byte in let d = c.in_ok-digit in
+    let fits = read_fits a.radix a.start a.digits.now l.byte-index l.number c.loop-byte-test.true l.invariant c.from.result c.from.ensures d.digit c.from-in-loop-byte.result d.digit d.ensures.value c.from-in-loop-byte.ensures refl in
+    record { fits = omega arith }
 
 pub overflow_add-number : goal.overflow_add-number
 overflow_add-number c =
-    let a = c.args in let l = c.loop-i in
-    omega (arith, c.digit_value-digit.ensures, read_fits a.radix a.start a.digits.now l.i l.number c.loop-i-test.true l.invariant (subst (λ d. d < a.radix) c.digit_value-digit.ensures c.if-digit-radix.false))
+    let a = c.args in let l = c.loop-byte in let d = c.in_ok-digit in
+    let fits = read_fits a.radix a.start a.digits.now l.byte-index l.number c.loop-byte-test.true l.invariant c.from.result c.from.ensures d.digit c.from-in-loop-byte.result c.from-in-loop-byte-2.result d.ensures.value c.from-in-loop-byte.ensures c.from-in-loop-byte-2.ensures in
+    record { fits = omega arith }
 
-pub returns-then-digit-radix : goal.returns-then-digit-radix
-returns-then-digit-radix c =
-    let a = c.args in let l = c.loop-i in
-    sym (ap (λ t. cond t (Some (digits_value_after a.radix a.start a.digits.now)) None)
-    (read_bad a.radix a.start a.digits.now l.i l.number c.loop-i-test.true l.invariant (subst (λ d. a.radix ≤ d) c.digit_value-digit.ensures c.if-digit-radix.true)))
-
-pub returns : goal.returns
-returns c =
-    let a = c.args in let l = c.loop-i in
-    read_all a.radix a.start a.digits.now l.i l.number (omega arith) l.invariant
+pub loop-byte-preserved : goal.loop-byte-preserved
+loop-byte-preserved c =
+    let a = c.args in let l = c.loop-byte in let d = c.in_ok-digit in
+    read_step a.radix a.start a.digits.now l.byte-index l.number c.loop-byte-test.true l.invariant c.from.result c.from.ensures d.digit c.from-in-loop-byte.result c.from-in-loop-byte-2.result d.ensures.value c.from-in-loop-byte.ensures c.from-in-loop-byte-2.ensures

@@ -11,8 +11,8 @@ use Rattle.system_text.proofs.factors.read_factors.Goals as goal
 abbrev short : ℕ → ℕ → ℕ → Bool
 short n i j = not (eqb i n) || not (eqb j (n * n))
 
-pub returns-then-len-head : goal.returns-then-len-head
-returns-then-len-head g c =
+pub returns-then-len-head-clause-factors : goal.returns-then-len-head-clause-factors
+returns-then-len-head-clause-factors g c =
     let m = g.R.Real in
     let n = c.args.head.size in
     let ws = left c.args.words.now in
@@ -22,8 +22,8 @@ returns-then-len-head g c =
     c.in_ok-order.ensures.places (sym (ap (λ v. formed (numbers_of m.format (take (n * n) v))) c.in_ok-order.ensures.rest) ∙ c.in_ok-lu.ensures.numbers)
     (sym (ap (λ i. short n i c.len-2.result) (c.len.ensures ∙ o.ok.0) ∙ ap (short n (length (vec_items o))) (c.len-2.ensures ∙ l.ok.0 ∙ sym (length-map (vec_items l) m.val))) ∙ c.if-len-head.true)
 
-pub returns : goal.returns
-returns g c =
+pub returns-clause-factors : goal.returns-clause-factors
+returns-clause-factors g c =
     let m = g.R.Real in
     let n = c.args.head.size in
     let ws = left c.args.words.now in

@@ -1,4 +1,4 @@
-use Rattle.std.proofs.Common.{◌≡◌, length}
+use Rattle.std.proofs.Common.{◌≡◌}
 use Rattle.text_model.specs.Systems.{numbers_of}
 use Rattle.system_text.specs.Left.{left}
 use Rattle.system_text.specs.Read.{any_of}
@@ -6,7 +6,4 @@ use Rattle.system_text.proofs.All.{any_more}
 use Rattle.system_text.proofs.numbers.surplus.Given as goal
 
 abbrev pub invariant-loop-word : goal.invariant-loop-word
-invariant-loop-word g l = let f = g.R.Real.format in any_more l.any (numbers_of f (left l.words)) ≡ any_of (numbers_of f (left l.initial.words))
-
-abbrev pub decreases-loop-word : goal.decreases-loop-word
-decreases-loop-word g l = length (left l.words)
+invariant-loop-word g l = let f = g.R.Real.format in any_more l.any (numbers_of f (left l.word-iterator)) ≡ any_of (numbers_of f (left l.initial.word-iterator))

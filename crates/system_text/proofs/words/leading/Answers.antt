@@ -1,21 +1,15 @@
-use Rattle.std.proofs.Common.{◌∙◌, arith}
-use Rattle.std.proofs.lemmas.List.{at_drop_all}
-use Rattle.system_text.specs.Left.{leading}
-use Rattle.system_text.proofs.Leading.{leading_more, leading_stop}
+use Rattle.std.proofs.Common.{◌≡◌, ◌∙◌, true, false, not, rules}
+use Rattle.std.specs.Bool.{beq}
+use Rattle.std.proofs.lemmas.Iterator.{YieldsList-from_slice, IsFirst-from_position}
+use borrow.Author.Tests.{tests}
+use Rattle.text_model.specs.Words.{separator}
+use Rattle.system_text.proofs.Leading.{leading_first}
 use Rattle.system_text.proofs.words.leading.Goals as goal
 
-pub returns-then-is_separator-separators : goal.returns-then-is_separator-separators
-returns-then-is_separator-separators c =
-    let stop = leading_stop c.args.separators c.args.text.now c.loop-i.i c.loop-i-test.true (rw c.is_separator.ensures at c.if-is_separator-separators.true) in
-    record { value = omega (arith, stop, c.loop-i.invariant); bound = omega arith }
-
-pub loop-i-preserved : goal.loop-i-preserved
-loop-i-preserved c =
-    leading_more c.args.separators c.args.text.now c.loop-i.i c.loop-i-test.true (rw c.is_separator.ensures at c.if-is_separator-separators.false)
-    ∙ c.loop-i.invariant
-
-pub returns : goal.returns
-unfolding leading
-returns c =
-    let none = at_drop_all (leading c.args.separators) c.args.text.now c.loop-i.i c.loop-i-test.false in
-    record { value = omega (arith, none, c.loop-i.invariant); bound = omega arith }
+pub returns-clause-value : goal.returns-clause-value
+returns-clause-value c =
+    let s = c.args.separators in
+    let t = c.args.text.now in
+    c.unwrap_or.ensures
+    ∙ leading_first s t c.position.result (IsFirst-from_position _ _ c.position.result (λ b. not (beq (separator b) s) ≡ true) (λ b. not (beq (separator b) s) ≡ false)
+    c.position.ensures.ran (YieldsList-from_slice t cc) (λ x q k. search (rules, tests)) (λ x q k. search (rules, tests)))

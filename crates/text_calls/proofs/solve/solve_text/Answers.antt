@@ -1,14 +1,13 @@
-use Rattle.std.proofs.Common.{take, sym, ap, ◌∙◌}
+use Rattle.std.proofs.Common.{take, codes, sym, ap, ◌∙◌}
 use Rattle.std.proofs.lemmas.Result.{IfOk-weaker}
-use Rattle.text_model.specs.Systems.{system_of}
+use Rattle.text_model.specs.Systems.{text_head}
 use Rattle.text_model.proofs.Stable.{printed-answers-stable}
-use Rattle.text_calls.specs.Lines.{solve_lines}
 use Rattle.text_calls.proofs.Shown.{solve_shown}
 use Rattle.text_calls.proofs.solve.solve_text.Goals as goal
 
-pub returns : goal.returns
-returns c =
-    let t = c.args.text.now in
-    let r = c.printed_lines.result in
-    let printed = IfOk-weaker r _ _ (λ v h. h (solve_lines t) c.solve_lines.ensures ∙ solve_shown (system_of t)) c.printed_lines.ensures in
-    record { printed = printed; stable = IfOk-weaker r _ _ (λ v h begins. printed-answers-stable t (ap (take 6) (sym h) ∙ begins)) printed }
+pub returns-clause-printed : goal.returns-clause-printed
+returns-clause-printed c = IfOk-weaker c.printed.result _ _ (λ v h. h ∙ solve_shown (text_head (codes "system") c.args.text.now)) c.printed.ensures
+
+pub returns-clause-stable : goal.returns-clause-stable
+returns-clause-stable c =
+    IfOk-weaker c.printed.result _ _ (λ v h begins. printed-answers-stable c.args.text.now (ap (take 6) (sym h) ∙ begins)) (returns-clause-printed c)
