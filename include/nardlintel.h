@@ -1,7 +1,8 @@
 /* Nardlintel: dense systems of 1 to 128 linear equations in binary64 (_f64) and binary32 (_f32).
  *
- * Link with libcapi.a (`tools/build capi`), which needs memcpy and memset of the C library and nothing else. The calls
- * allocate nothing, keep nothing between calls, and may be made from several threads at once, on buffers of their own.
+ * Link with libcapi.a (`tools/build capi`), which needs memcpy, memmove and memset of the C library and nothing else. The
+ * calls allocate nothing, keep nothing between calls, and may be made from several threads at once, on buffers of their
+ * own.
  *
  * A matrix of size n is n * n numbers, row by row. An order is n numbers: in place i stands the given row order[i]. The
  * factors are one matrix: the multipliers below the diagonal, the upper factor on and above it. Rows and columns are

@@ -47,7 +47,7 @@ impl Columned for AgainRefusal {
     }
 }
 
-// The number of an outcome, by which alone C knows it. The column of a refusal that has one is written.
+// The number of an outcome, which is what C is given for it. The column of a refusal that has one is written.
 pub fn report<E: Columned>(outcome: Result<(), E>, n: usize, column: &mut usize) -> u32
     ensures number { result ≡ outcome_number E.Numbered.numbered outcome }
     ensures column { column.new ≡ outcome_column (E.Columned.columned n) outcome column.old }

@@ -21,7 +21,7 @@ use Rattle.factor.proofs.Flat.{length-matrix}
 use Rattle.factor.proofs.Steps.{of_inputs, columns-not-inputs}
 
 -- the columns of a matrix that a slice holds, in the order 0 to n - 1, are its factoring
-factored-is : {X : Type 0} (v : X → Float) (f : Format) (n : ℕ) (a : List X) → columns f n (factoring_of v n a (up_to n) (Ok tt)) ≡ factored f (matrix_of v n a)
+pub factored-is : {X : Type 0} (v : X → Float) (f : Format) (n : ℕ) (a : List X) → columns f n (factoring_of v n a (up_to n) (Ok tt)) ≡ factored f (matrix_of v n a)
 factored-is v f n a = ap (λ k. columns f k (factoring_of v n a (up_to k) (Ok tt))) (sym (length-matrix v n a))
 
 -- so those of a factoring that was begun with a; r is the outcome, and xs and order are what it holds then

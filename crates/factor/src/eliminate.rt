@@ -2,7 +2,7 @@
 ghost use Rattle.std.specs.Prelude.{◌≡◌, ◌+◌, ◌*◌, ◌<◌, ◌≤◌, map, length, drop, slice_set};
 ghost use Rattle.element.specs.Matrix.{row};
 ghost use Rattle.element.specs.Rows.{matrix_values};
-ghost use Rattle.model.specs.Factor.{eliminate_row, eliminate_row_in_range, eliminate_rows_in_range};
+ghost use Rattle.model.specs.Factor.{multiplier, eliminate_row, eliminate_row_in_range, eliminate_rows_in_range};
 ghost use Rattle.factor.specs.Slices.{matrix_of};
 
 use element::{Matrix, Real, subtract_product};
@@ -37,14 +37,14 @@ pub fn rows_below_in_range<R: Real>(m: &Matrix<R>, k: usize) -> bool
     true
 }
 
-// Subtracts the multiplier times the pivot's row from a row; the multiplier takes the place of entry k.
+// Subtracts the multiplier l times the pivot's row from a row; the multiplier takes the place of entry k.
 #[tactic(auto, using(crate::proofs::Elimination::row_eliminated))]
-pub fn eliminate_row<R: Real>(k: usize, pivot_row: &[R], row: &mut [R])
+pub fn eliminate_row<R: Real>(k: usize, l: R, pivot_row: &[R], row: &mut [R])
     requires lengths { length pivot_row.now ≡ length row.old }
     requires column { k < length row.old }
+    requires multiplier { R.Real.val l ≡ multiplier R.Real.format k (map R.Real.val pivot_row.now) (map R.Real.val row.old) }
     ensures { map R.Real.val row.new ≡ eliminate_row R.Real.format k (map R.Real.val pivot_row.now) (map R.Real.val row.old) }
 {
-    let l = row[k].over(&pivot_row[k]);
     row[k] = l;
     // By index, since no proof knows what a loop over a zip or a skip of `iter_mut` wrote.
     for j in k + 1..row.len() {
@@ -63,5 +63,8 @@ pub fn eliminate_from_row<R: Real>(n: usize, m: &mut [R], k: usize, i: usize)
     ensures { matrix_of R.Real.val n m.new ≡ slice_set (matrix_of R.Real.val n m.old) i (eliminate_row R.Real.format k (row (matrix_of R.Real.val n m.old) k) (row (matrix_of R.Real.val n m.old) i)) }
 {
     let (above, from) = m.split_at_mut(i * n);
-    eliminate_row(k, &above[k * n..k * n + n], &mut from[..n]);
+    let pivot_row = &above[k * n..k * n + n];
+    let row = &mut from[..n];
+    let l = row[k].over(&pivot_row[k]);
+    eliminate_row(k, l, pivot_row, row);
 }

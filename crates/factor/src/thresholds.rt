@@ -20,7 +20,7 @@ pub struct Unknown;
 pub fn entries_reach<R: Real>(xs: &[R]) -> bool
     ensures { result ≡ all_reach R.Real.format (map R.Real.val xs.now) }
 {
-    // Without leaving early: a loop with one exit is compiled to vector instructions.
+    // Without leaving early, since all reach it in most rows.
     let mut reached = true;
     for x in xs {
         reached &= x.is_zero() | x.reaches_threshold();
@@ -49,8 +49,12 @@ impl<'a, R: Real> Factoring<'a, R> {
         requires { k < self.now.size }
         ensures { result ≡ factors_reach R.Real.format k (matrix_of R.Real.val self.now.size self.now.entries.now) }
     {
+        // A zero pivot ends it, so that no quotient by it is worked out.
+        if self.pivot(k).is_zero() {
+            return false;
+        }
         let m = self.matrix();
-        !self.pivot(k).is_zero() & entries_reach(&m.row(k)[k + 1..]) & multipliers_reach(&m, k)
+        entries_reach(&m.row(k)[k + 1..]) & multipliers_reach(&m, k)
     }
 
     // Column k, eliminated if its factors reach the threshold.

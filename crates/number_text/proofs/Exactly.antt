@@ -19,7 +19,7 @@ prec_small binary32 = omega arith
 prec_small binary64 = omega arith
 
 -- how many digits a number has
-digits_of : (w : ℕ) → 0 < w → w < 2 ^ 64 → (0 < 64 - count_leading_zeros 64 w) × (2 ^ (64 - count_leading_zeros 64 w - 1) ≤ w) × (w < 2 ^ (64 - count_leading_zeros 64 w))
+pub digits_of : (w : ℕ) → 0 < w → w < 2 ^ 64 → (0 < 64 - count_leading_zeros 64 w) × (2 ^ (64 - count_leading_zeros 64 w - 1) ≤ w) × (w < 2 ^ (64 - count_leading_zeros 64 w))
 digits_of w p h =
     let t = leading_top 64 w p h in
     let d : suc t.0 ≡ 64 - count_leading_zeros 64 w = omega (arith, t.1) in
@@ -64,7 +64,7 @@ down-minus a b h =
     let n : suc (b - suc a) ≡ b - a = omega arith in
     ap (λ t. down (cond t (pos (a - b)) (negsuc (b - suc a)))) (lt-leb b a h) ∙ ap (λ x. 2 ^ x) n
 
-whole_pos : (m : ℕ) → 0 < m → 0 < m / 2 ^ count_trailing_zeros 64 m
+pub whole_pos : (m : ℕ) → 0 < m → 0 < m / 2 ^ count_trailing_zeros 64 m
 whole_pos m M = ⊎_elim (λ h. h) (λ h. absurd (omega (arith, trailing_divides 64 m, mul-le-mul_right (2 ^ count_trailing_zeros 64 m) h))) (cases_lt 0 (m / 2 ^ count_trailing_zeros 64 m))
 
 module _ (f : Format) (s : Bool) (m k l : ℕ) (M : 0 < m) where
@@ -80,13 +80,13 @@ module _ (f : Format) (s : Bool) (m k l : ℕ) (M : 0 < m) where
   refused-digits : 2 ^ prec f ≤ whole → None ≡ exactly f s m k l
   refused-digits h = refused f (odd 64 s m k l) (fin s whole (minus scale l)) form (too_many f s whole (minus scale l) h)
 
-  refused-low : scale + low f < l → None ≡ exactly f s m k l
+  pub refused-low : scale + low f < l → None ≡ exactly f s m k l
   refused-low h =
       let d : low f < l - scale = omega arith in
       refused f (odd 64 s m k l) (fin s whole (minus scale l)) form
       (too_fine f s whole (minus scale l) (whole_pos m M) (subst (λ x. 2 ^ low f < x) (sym (down-minus scale l (omega arith))) (pow-lt d)))
 
-  refused-long : (d : ℕ) → 2 ^ (d - 1) ≤ whole → prec f < d → None ≡ exactly f s m k l
+  pub refused-long : (d : ℕ) → 2 ^ (d - 1) ≤ whole → prec f < d → None ≡ exactly f s m k l
   refused-long d h t = refused-digits (le_trans (pow_mono (omega arith)) h)
 
   module _ (place : ℕ) (P : place + l ≡ scale + low f) where
@@ -104,13 +104,13 @@ module _ (f : Format) (s : Bool) (m k l : ℕ) (M : 0 < m) where
         refused f (odd 64 s m k l) (fin s whole e) form
         (too_large f s whole e (whole_pos m M) (le_of_mul-le-mul_right (omega arith) (mul-pos (pow_pos l) (pow_pos (low f)))))
 
-    refused-above : (d : ℕ) → 0 < d → 2 ^ (d - 1) ≤ whole → low f + suc (emax f) < d + place → None ≡ exactly f s m k l
+    pub refused-above : (d : ℕ) → 0 < d → 2 ^ (d - 1) ≤ whole → low f + suc (emax f) < d + place → None ≡ exactly f s m k l
     refused-above d D h t =
         let n : low f + suc (emax f) ≤ d - 1 + place = omega arith in
         refused-high (le_trans (pow_mono n) (subst (λ x. x ≤ whole * 2 ^ place) (sym (pow-add 2 (d - 1) place)) (mul-le-mul_right (2 ^ place) h)))
 
     -- q is the whole number moved up by j digits
-    accepted : m < 2 ^ 64 → (q j n : ℕ) → q ≡ whole * 2 ^ j → n + j ≡ place → HeldUnits f q n → (x : Float) → x ≡ in_units f s q n → Some x ≡ exactly f s m k l
+    pub accepted : m < 2 ^ 64 → (q j n : ℕ) → q ≡ whole * 2 ^ j → n + j ≡ place → HeldUnits f q n → (x : Float) → x ≡ in_units f s q n → Some x ≡ exactly f s m k l
     accepted B q j n e t u x is =
         let small : whole * 2 ^ j < 2 ^ 64 = subst (λ y. y < 2 ^ 64) e (units_small f q u.digits) in
         let full : whole * 2 ^ count_trailing_zeros 64 m < 2 ^ 64 = subst (λ y. y < 2 ^ 64) (sym (trailing_divides 64 m)) B in
@@ -139,7 +139,7 @@ module _ (f : Format) (w d place room : ℕ) (D : 0 < d) (lo : 2 ^ (d - 1) ≤ w
   moved-digits : w * 2 ^ room < 2 ^ prec f
   moved-digits = lt_of_lt_of_le (shl_lt d room hi) (pow_mono (omega arith))
 
-  moved-whole : w * 2 ^ room % 2 ^ 64 ≡ w * 2 ^ room
+  pub moved-whole : w * 2 ^ room % 2 ^ 64 ≡ w * 2 ^ room
   moved-whole = mod-eq_of_lt (units_small f (w * 2 ^ room) (le_of_lt moved-digits))
 
   moved-normal : 0 < place - room → hid f ≤ w * 2 ^ room
@@ -154,7 +154,7 @@ module _ (f : Format) (w d place room : ℕ) (D : 0 < d) (lo : 2 ^ (d - 1) ≤ w
       (ap (λ x. w * x) (ap (λ x. 2 ^ x) (sym e) ∙ pow-add 2 room (place - room)) ∙ sym (mul_assoc w (2 ^ room) (2 ^ (place - room))))
       (lt_of_lt_of_le (shl_lt d place hi) (pow_mono L))
 
-  moved-held : HeldUnits f (w * 2 ^ room % 2 ^ 64) (place - room)
+  pub moved-held : HeldUnits f (w * 2 ^ room % 2 ^ 64) (place - room)
   moved-held = subst (λ q. HeldUnits f q (place - room)) (sym moved-whole) record {
     digits = le_of_lt moved-digits;
     normal = moved-normal;

@@ -151,10 +151,10 @@ module _ (f : Format) (m den n k spare : ℕ) (D : 0 < den) (B : den ≤ 10 ^ 15
     place-low : prec f + k ≤ low f + 53
     place-low = omega (arith, prec_small f)
 
-    shifted_held : HeldUnits f (closest n (den * 2 ^ spare % 2 ^ 128)) k
+    pub shifted_held : HeldUnits f (closest n (den * 2 ^ spare % 2 ^ 128)) k
     shifted_held = quotient-held f s m den n (den * 2 ^ spare % 2 ^ 128) k D unit-pos unit-same (unit-low lo) (unit-high hi) place-low
 
-    shifted_is : (x : Float) → x ≡ in_units f s (closest n (den * 2 ^ spare % 2 ^ 128)) k → x ≡ round f s m den
+    pub shifted_is : (x : Float) → x ≡ in_units f s (closest n (den * 2 ^ spare % 2 ^ 128)) k → x ≡ round f s m den
     shifted_is = quotient_is f s m den n (den * 2 ^ spare % 2 ^ 128) k D unit-pos unit-same (unit-low lo) (unit-high hi) place-low
 
 -- p, l and q are the format's digits, its low and the quotient as the code has them

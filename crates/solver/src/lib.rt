@@ -1,4 +1,4 @@
-// The four calls of the library, for `f64` and `f32`.
+// The four calls of the library, for any element type.
 #![tactic(auto)]
 
 mod call;

@@ -39,10 +39,6 @@ from-other n w i h d =
 pub from_end : (n : ℕ) (w : List ℕ) (i : ℕ) → length w ≤ i → n ≤ 65535 → read_from n (drop i w) ≡ Some n
 from_end n w i h b = at_drop_all (read_from n) w i h ∙ ap Some (omega arith)
 
--- one more digit, where the sums stop at 65535
-pub saturated : (n d m r : ℕ) → m ≡ min (n * 10) 65535 → r ≡ min (m + d) 65535 → r ≡ min (n * 10 + d) 65535
-saturated n d m r p q = omega arith
-
 -- ---- a whole word
 pub place_none : (w : List ℕ) → read_from 0 w ≡ None → place w ≡ None
 place_none w e = go (ltb 0 (length w)) (digits_below 10 w) e

@@ -12,11 +12,11 @@ pub fn read_whole(word: &[u8]) -> Result<u16, TextRefusal>
     if word.is_empty() {
         return Err(TextRefusal::Form);
     }
-    let mut number = 0u16;
+    let mut number = 0;
     for byte in word {
         let digit = char::from(*byte).to_digit(10).ok_or(TextRefusal::Form)?;
-        // `as`, since it is proved to lose nothing; `TryFrom` would add a failure that never comes.
-        number = number.saturating_mul(10).saturating_add(digit as u16);
+        number = (number * 10 + digit).min(65535);
     }
-    Ok(number)
+    // `as`, since it is proved to lose nothing; `TryFrom` would add a failure that never comes.
+    Ok(number as u16)
 }

@@ -2,11 +2,12 @@
 ghost use Rattle.std.specs.Prelude.{◌≡◌, ℕ, List, ◌++◌, map, OnOk};
 ghost use Rattle.element.specs.Rows.{matrix_values};
 ghost use Rattle.number_text.specs.Printed.{printed};
-ghost use Rattle.text_model.specs.Refusals.{no_answer};
+ghost use Rattle.text_model.specs.Refusals.{factoring_detail, detail as detail_of, no_answer};
 ghost use Rattle.text_model.specs.Lines.{number_lines, answer, line, row_lines, factors_word, factors_text};
 ghost use Rattle.system_text.specs.Write.{Appends};
 
-use element::{Matrix, Real};
+use element::{Matrix, Numbered, Real};
+use model::FactorRefusal;
 use number_text::{Digits, write_decimal, write_finite};
 use std::alloc::AllocError;
 use text_model::{Precision, TextRefusal};
@@ -102,9 +103,44 @@ pub fn write_factors<R: Digits>(
     write_rows(lu, out)
 }
 
+// The number of a refusal of the factoring, with the column. This and the next are by hand, though the refusal has a
+// `Display`: by a formatter a line takes nine times as long, and more with a text of its own, which memory can end at too.
+fn write_factoring(refusal: FactorRefusal, out: &mut Vec<u8>) -> Result<(), AllocError>
+    ensures { OnOk result (out.new.items ≡ out.old.items ++ factoring_detail refusal) }
+{
+    match refusal {
+        FactorRefusal::Input(input) => write_decimal(u64::from(input.number()), out),
+        FactorRefusal::Pivot(column) => {
+            out.extend_from_slice(b"5 ")?;
+            // `as`, as in `write_factors`.
+            write_decimal(column as u64, out)
+        }
+        FactorRefusal::Range(column) => {
+            out.extend_from_slice(b"6 ")?;
+            write_decimal(column as u64, out)
+        }
+    }
+}
+
+fn write_detail(refusal: TextRefusal, out: &mut Vec<u8>) -> Result<(), AllocError>
+    ensures { OnOk result (out.new.items ≡ out.old.items ++ detail_of refusal) }
+{
+    match refusal {
+        TextRefusal::Size => out.extend_from_slice(b"1"),
+        TextRefusal::Form => out.extend_from_slice(b"7"),
+        TextRefusal::Count => out.extend_from_slice(b"8"),
+        TextRefusal::Factors => out.extend_from_slice(b"4"),
+        TextRefusal::Factoring(refusal) => write_factoring(refusal, out),
+        TextRefusal::Solving => out.extend_from_slice(b"6 solving"),
+        TextRefusal::Memory => Ok(()),
+    }
+}
+
 pub fn write_refusal(refusal: TextRefusal, out: &mut Vec<u8>) -> Result<(), AllocError>
     ensures { OnOk result (out.new.items ≡ out.old.items ++ no_answer refusal) }
 {
-    let text = format!(in *out.allocator(); "no answer {refusal}\n")?;
-    out.extend_from_slice(text.as_bytes())
+    out.extend_from_slice(b"no answer ")?;
+    write_detail(refusal, out)?;
+    out.push(b'\n')?;
+    Ok(())
 }

@@ -8,4 +8,4 @@ returns g c =
     let real = g.R.Real in
     let ps = map real.val c.args.pivot_row.now in
     let rs = map real.val c.loop-j.row in
-    row_ends real.format (real.val c.over-l.result) ps c.loop-j.j rs _ (omega (arith, length-map c.loop-j.row real.val)) (omega (arith, length-map c.args.pivot_row.now real.val, length-set c.args.row.now c.args.k c.over-l.result)) c.loop-j.invariant
+    row_ends real.format (real.val c.args.l) ps c.loop-j.j rs _ (omega (arith, length-map c.loop-j.row real.val)) (omega (arith, length-map c.args.pivot_row.now real.val, length-set c.args.row.now c.args.k c.args.l)) c.loop-j.invariant

@@ -5,7 +5,7 @@ use Rattle.std.proofs.lemmas.Bool.{eqb-false}
 use Rattle.std.proofs.lemmas.Result.{err_from_is_err_and}
 use Rattle.text_model.specs.declared.TextRefusal.TheVariants.{Form}
 use Rattle.system_text.specs.Read.{formed}
-use Rattle.system_text.proofs.Saturated.{read_from, from_digit, from-other, from_end, saturated, place_none, place-some}
+use Rattle.system_text.proofs.Saturated.{read_from, from_digit, from-other, from_end, place_none, place-some}
 use Rattle.system_text.proofs.whole.read_whole.Goals as goal
 
 pub returns-in_err-digit : goal.returns-in_err-digit
@@ -24,9 +24,8 @@ loop-byte-preserved c =
     let w = c.args.word.now in
     let n = c.loop-byte.number in
     let i = c.loop-byte.byte-index in
-    let digit = rw c.in_ok-digit.ensures.ok_part at c.to_digit.ensures.value in
-    let is = saturated n c.in_ok-digit.digit c.saturating_mul.result c.saturating_add-number.result c.saturating_mul.ensures c.saturating_add-number.ensures in (
-      ap (λ m. read_from m (drop (i + 1) w)) (is ∙ ap (λ d. min (n * 10 + d) 65535) (digit.1 ∙ ap digit_value c.from.ensures))
+    let digit = rw c.in_ok-digit.ensures.ok_part at c.to_digit.ensures.value in (
+      ap (λ m. read_from m (drop (i + 1) w)) (c.min-number.ensures ∙ ap (λ d. min (n * 10 + d) 65535) (digit.1 ∙ ap digit_value c.from.ensures))
           ∙ from_digit n w i c.loop-byte-test.true (subst (λ b. digit_value b < 10) c.from.ensures digit.0) ∙ c.loop-byte.invariant.0,
       omega arith,
     )
