@@ -1,9 +1,9 @@
 // One case of each call, worked out and printed.
 use crate::texts::{numbers, show_numbers};
-use element::{Multiply, Numbered, Real};
+use element::Real;
 use factor::factor_matrix;
 use number_text::Digits;
-use solver::Outcomes;
+use solver::{Outcomes, Solver};
 use std::io;
 use text_model::TextRefusal;
 
@@ -33,7 +33,8 @@ pub fn show_factors<R: Digits>(rt: &HostRuntime, n: usize, matrix: &str) -> io::
     println!(rt; "")
 }
 
-// The answer of a system, or its refusal. Where the factoring is what refuses, it says at which column.
+// The answer of a system, or its refusal: the call gives its number, and the refusal itself has the column at which a
+// factoring ended.
 pub fn show_system<R: Digits>(rt: &HostRuntime, matrix: &str, right: &str) -> io::Result<()> {
     let heap = rt.alloc();
     let a = numbers::<R>(heap, matrix)?;
@@ -43,12 +44,11 @@ pub fn show_system<R: Digits>(rt: &HostRuntime, matrix: &str, right: &str) -> io
     let mut order = vec![in heap; 0u16; n]?;
     let mut x = Vec::from_slice(heap, &b)?;
     print!(rt; "{matrix} with {right}: ")?;
-    match R::solve_outcome(n, &a, &b, &mut lu, &mut order, &mut x) {
-        Ok(()) => {
-            print!(rt; "answer")?;
-            show_numbers(rt, &x)?;
-        }
-        Err(refusal) => show_refusal(rt, TextRefusal::from(refusal))?,
+    if R::solve(n, &a, &b, &mut lu, &mut order, &mut x) == 0 {
+        print!(rt; "answer")?;
+        show_numbers(rt, &x)?;
+    } else if let Err(refusal) = R::solve_outcome(n, &a, &b, &mut lu, &mut order, &mut x) {
+        show_refusal(rt, TextRefusal::from(refusal))?;
     }
     println!(rt; "")
 }
@@ -61,11 +61,11 @@ pub fn show_product<R: Digits>(rt: &HostRuntime, matrix: &str, vector: &str) -> 
     let mut y = Vec::from_slice(heap, &x)?;
     print!(rt; "{matrix} times {vector}: ")?;
     match R::multiply(x.len(), &a, &x, &mut y) {
-        Ok(()) => {
+        0 => {
             print!(rt; "answer")?;
             show_numbers(rt, &y)?;
         }
-        Err(refusal) => print!(rt; "no answer {}", refusal.number())?,
+        number => print!(rt; "no answer {number}")?,
     }
     println!(rt; "")
 }
